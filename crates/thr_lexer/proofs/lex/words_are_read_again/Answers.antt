@@ -1,0 +1,5 @@
+use Rattle.thr_lexer.proofs.Canon.{line_again}
+use Rattle.thr_lexer.proofs.lex.words_are_read_again.Goals as goal
+
+pub returns : goal.returns
+returns c = line_again

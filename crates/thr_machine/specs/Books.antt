@@ -1,0 +1,98 @@
+-- What a book stands for, and what its calls do.
+use Rattle.std.specs.Prelude.{◌≡◌, ℕ, pos, ◌+◌, ◌-◌, ◌≤◌, ◌<◌, List, [], ◌∷◌, ◌++◌, drop, length, Option, None, Some, IfSome, vec_len, vec_capacity}
+use Rattle.thr_values.specs.declared.scheduling.Policy.TheVariants as policy
+use Rattle.thr_values.specs.declared.event.Event.{Event}
+use Rattle.thr_values.specs.declared.event.Stop.{Stop}
+use Rattle.thr_syntax.specs.declared.tree.Stmt.{Stmt}
+use Rattle.thr_syntax.specs.declared.tree.Script.{Script}
+use Rattle.thr_model.specs.Machine.{State, Standing, Ready, Running, Ended, Made, main_body, opening, made_by}
+use Rattle.thr_model.specs.Histories.{History, stop_at, StopsWith, turn_count}
+use Rattle.thr_model.specs.Built.{IsBuilt}
+use Rattle.thr_machine.specs.Views.{BookView}
+use Rattle.thr_machine.specs.declared.book.Phase.{Phase}
+use Rattle.thr_machine.specs.declared.book.Phase.TheVariants as phase
+use Rattle.thr_machine.specs.declared.book.Book.TheInside.{Inside}
+
+-- ---- the representation
+
+abbrev pub standing_of : Phase → Standing
+standing_of phase.Waiting = Ready 0
+standing_of phase.OnProcessor = Running 0
+standing_of phase.Over = Ended (pos 0)
+
+-- The open calls: `main` with what is left of its body, until it is over.
+abbrev pub calls_of : Phase → List Stmt → List (List Stmt)
+calls_of phase.Waiting rest = rest ∷ []
+calls_of phase.OnProcessor rest = rest ∷ []
+calls_of phase.Over rest = []
+
+abbrev pub state_of : Inside → State
+state_of a = record {
+  threads = (
+    1,
+    record {
+      standing = standing_of a.phase;
+      remainder = record { value = pos 0; calls = calls_of a.phase (drop a.place (main_body a.script.items)) };
+      policy = policy.Fg;
+      priority = 16;
+      slice = a.slice;
+    },
+  ) ∷ [];
+  arrivals = 1;
+  clock = pos 0;
+}
+
+abbrev pub view_of : Inside → BookView
+view_of a = record {
+  script = a.script;
+  workers = 1;
+  state = state_of a;
+  entries = a.entries.items;
+  turns = a.turns;
+  stopped = a.stopped;
+  room = vec_capacity a.entries - vec_len a.entries;
+}
+
+-- The stop that holds in a book, want of memory aside.
+abbrev pub stop_of : BookView → Option Stop
+stop_of b = stop_at b.script b.state b.entries
+
+-- The state is that of the history, by some events.
+pub record IsReached (b : BookView) : Type 0 where
+  pub events : List Event
+  pub history : History b.script b.workers b.state events b.entries b.turns
+
+-- What each book keeps.
+pub record IsKept (a : Inside) : Type 0 where
+  pub built : IsBuilt a.script
+  pub reached : IsReached (view_of a)
+  pub counted : a.turns ≤ vec_len a.entries
+  pub stopped : IfSome a.stopped (λ why. StopsWith (stop_of (view_of a)) why)
+
+-- ---- contracts
+
+-- A book that was opened now.
+pub record IsOpened (b : BookView) (s : Script) (n : ℕ) : Type 0 where
+  pub script : b.script ≡ s
+  pub workers : b.workers ≡ n
+  pub state : b.state ≡ opening s
+  pub entries : b.entries ≡ []
+  pub turns : b.turns ≡ 0
+  pub stopped : b.stopped ≡ None
+
+-- An event may be made: the book is not stopped, no stop holds, and there is room.
+pub record IsOpen (b : BookView) : Type 0 where
+  pub going : b.stopped ≡ None
+  pub no_stop : stop_of b ≡ None
+  pub room : 1 ≤ b.room
+
+-- This event was made and wrote its lines, of which there is one at least; but for the room nothing else has changed.
+pub record Makes (old new : BookView) (e : Event) : Type 0 where
+  pub made : Made
+  pub is_made : made_by old.workers old.state e ≡ Some made
+  pub some : 0 < length made.lines
+  pub after : new ≡ record old { state = made.state; entries = old.entries ++ made.lines; turns = old.turns + turn_count e; room = new.room }
+
+-- Nothing but the room has changed.
+abbrev pub RoomOnly : BookView → BookView → Type 0
+RoomOnly old new = new ≡ record old { room = new.room }

@@ -1,0 +1,15 @@
+-- What contracts see of a book.
+use Rattle.std.specs.Prelude.{ℕ, List, Option}
+use Rattle.thr_values.specs.declared.event.Stop.{Stop}
+use Rattle.thr_values.specs.declared.history.Entry.{Entry}
+use Rattle.thr_syntax.specs.declared.tree.Script.{Script}
+use Rattle.thr_model.specs.Machine.{State}
+
+pub record BookView : Type 0 where
+  pub script : Script
+  pub workers : ℕ
+  pub state : State
+  pub entries : List Entry
+  pub turns : ℕ
+  pub stopped : Option Stop
+  pub room : ℕ

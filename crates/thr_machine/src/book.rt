@@ -1,0 +1,244 @@
+//! The book: the machine with the history of its events.
+
+ghost use Rattle.std.specs.Prelude.{◌≡◌, ◌≤◌, ◌<◌, ◌+◌, ◌↔◌, [], ◌∷◌, ◌++◌, IsTrue, IfOk, IsSome, IfSome, IfNone, OnOk, OnErr, None, Some, vec_len, vec_capacity, false};
+ghost use Rattle.std.specs.Option.{option_map};
+ghost use Rattle.thr_values.specs.declared.event.Event.TheVariants as event;
+ghost use Rattle.thr_values.specs.declared.number.Tid.{Tid};
+ghost use Rattle.thr_model.specs.Machine.{made_by, running, thread_number};
+ghost use Rattle.thr_model.specs.Histories.{stop_at, StopsWith, Legal};
+ghost use Rattle.thr_model.specs.Built.{IsBuilt};
+
+use crate::place::{body_of, next_slice, number_of};
+use sqlite_items::Items;
+use std::alloc::Global;
+use std::marker::Model;
+use thr_syntax::journal::Journal;
+use thr_syntax::tree::Script;
+use thr_values::event::Stop;
+use thr_values::history::{Entry, What, Who};
+use thr_values::number::{NoMemory, Tid};
+
+/// Where the one thread is.
+#[derive(Clone, Copy, Debug, PartialEq, Eq)]
+pub enum Phase {
+    Waiting,
+    OnProcessor,
+    Over,
+}
+
+/// A machine that is opened on a script, with its history. Contracts see its script, its workers, its state, the lines of
+/// its history, how many of its events were turns, the stop that was made, and for how many lines there is room
+/// (docs/machine.md, "Histories").
+#[derive(Drop)]
+pub struct Book {
+    script: Script,
+    entries: Vec<Entry>,
+    place: usize,
+    phase: Phase,
+    slice: u8,
+    turns: u64,
+    stopped: Option<Stop>,
+}
+
+impl Model for Book {
+    ghost use Rattle.thr_machine.specs.Views.{BookView};
+    ghost use Rattle.std.specs.Coded.{codes};
+    ghost use Rattle.thr_syntax.specs.contracts.tree.Stmt as stmt;
+    ghost use Rattle.thr_syntax.specs.contracts.expr.Expr as expr;
+
+    ghost Value = { BookView };
+
+    ghost coded = { Prim.hlevel (codes, stmt.the_row.coded, expr.the_row.coded) };
+
+    ghost use Rattle.thr_machine.specs.Books.{view_of, IsKept};
+
+    ghost view = { view_of };
+
+    ghost invariant = { IsKept };
+}
+
+/// The limit on lines where the script sets none, which is so in each script that is built.
+const LIMIT: usize = 100000;
+
+/// Adds a line, for which there is room.
+fn add(entries: &mut Vec<Entry>, who: Who, what: What)
+    requires { vec_len entries.old < vec_capacity entries.old }
+    ensures items { entries.new.items ≡ entries.old.items ++ record { who = who; what = what } ∷ [] }
+    ensures len { vec_len entries.new ≡ vec_len entries.old + 1 }
+{
+    entries.push_reserved(Entry { who, what });
+}
+
+impl Book {
+    ghost use Rattle.thr_model.specs.Machine.{opening, running};
+    ghost use Rattle.thr_machine.specs.Books.{IsOpened, IsOpen, Makes, RoomOnly, IsReached, stop_of};
+
+    /// A machine of `workers` processors, opened on the script. So far there is one processor.
+    pub fn new(alloc: Global, script: Script, workers: u32) -> Result<Book, NoMemory>
+        requires built { IsBuilt script }
+        requires one { workers ≡ 1 }
+        ensures { IfOk result (λ b. IsOpened b script workers) }
+    {
+        let _ = workers;
+        Ok(Book {
+            script,
+            entries: Vec::new(alloc),
+            place: 0,
+            phase: Phase::Waiting,
+            slice: 8,
+            turns: 0,
+            stopped: None,
+        })
+    }
+
+    /// Takes the memory for one event. Of the calls on a book it alone can find none.
+    pub fn make_room(&mut self) -> Result<(), NoMemory>
+        ensures ok { OnOk result (1 ≤ self.new.room) }
+        ensures same { RoomOnly self.old self.new }
+        ensures err { OnErr result (self.new ≡ self.old) }
+    {
+        match self.entries.reserve(1) {
+            Ok(()) => Ok(()),
+            Err(_) => Err(NoMemory),
+        }
+    }
+
+    /// Whether there is room for one event.
+    pub fn room(&self) -> bool
+        ensures { IsTrue result ↔ (1 ≤ self.now.room) }
+    {
+        self.entries.capacity() > self.entries.len()
+    }
+
+    /// The thread that processor `p` has.
+    pub fn running(&self, p: u32) -> Option<Tid>
+        ensures { result ≡ option_map thread_number (running self.now.state p) }
+    {
+        match self.phase {
+            Phase::OnProcessor if p == 0 => Some(Tid(1)),
+            _ => None,
+        }
+    }
+
+    /// Processor `p` takes the best ready thread. The answer is None exactly where that isn't legal.
+    pub fn dispatch(&mut self, p: u32) -> Option<Tid>
+        requires { IsOpen self.old }
+        ensures made { IfSome result (λ t. Makes self.old self.new (event.Dispatch p)) }
+        ensures none { IfNone result ((made_by self.old.workers self.old.state (event.Dispatch p) ≡ None) × (self.new ≡ self.old)) }
+        ensures taken { p < self.old.workers → running self.old.state p ≡ None → IsSome result }
+    {
+        match self.phase {
+            Phase::Waiting if p == 0 => {
+                add(&mut self.entries, Who::Proc(p), What::Run(Tid(1)));
+                self.phase = Phase::OnProcessor;
+                self.slice = 8;
+                Some(Tid(1))
+            }
+            _ => None,
+        }
+    }
+
+    /// The thread that processor `p` has makes a turn.
+    pub fn turn(&mut self, p: u32)
+        requires open { IsOpen self.old }
+        requires runs { IsSome (running self.old.state p) }
+        ensures { Makes self.old self.new (event.Turn p) }
+    {
+        let _ = p;
+        let body = body_of(&self.script);
+        if self.place < body.len() {
+            let number = number_of(&body[self.place]);
+            add(&mut self.entries, Who::Thread(Tid(1)), What::Say(number));
+            self.place += 1;
+            self.slice = next_slice(self.slice);
+            self.turns += 1;
+            return;
+        }
+        add(&mut self.entries, Who::Thread(Tid(1)), What::End(0));
+        self.phase = Phase::Over;
+        self.turns += 1;
+    }
+
+    /// The clock moves. The answer is false exactly where that isn't legal, which is so as long as no statement waits for a
+    /// time.
+    pub fn clock(&mut self) -> bool
+        requires { IsOpen self.old }
+        ensures never { (result ≡ false) × (made_by self.old.workers self.old.state event.Clock ≡ None) }
+        ensures same { self.new ≡ self.old }
+    {
+        false
+    }
+
+    /// The stop that holds, want of memory aside.
+    pub fn stop_test(&self) -> Option<Stop>
+        ensures value { result ≡ stop_of self.now }
+        ensures reached { IsReached self.now }
+    {
+        match self.phase {
+            Phase::Over => Some(Stop::Finished),
+            Phase::Waiting | Phase::OnProcessor => {
+                if self.entries.len() >= LIMIT {
+                    Some(Stop::Limit)
+                } else {
+                    None
+                }
+            }
+        }
+    }
+
+    /// Stops the machine, for the reason that holds, or for want of memory where none does.
+    pub fn stop(&mut self, why: Stop)
+        requires going { self.old.stopped ≡ None }
+        requires holds { StopsWith (stop_of self.old) why }
+        ensures { self.new ≡ record self.old { stopped = Some why } }
+    {
+        self.stopped = Some(why);
+    }
+
+    /// Why the machine was stopped, where it was.
+    pub fn stopped(&self) -> Option<Stop>
+        ensures { result ≡ self.now.stopped }
+    {
+        self.stopped
+    }
+
+    /// The lines of the history.
+    pub fn entries(&self) -> &[Entry]
+        ensures { result.now ≡ self.now.entries }
+    {
+        self.entries.as_slice()
+    }
+
+    /// How many of the events were turns.
+    pub fn turns(&self) -> u64
+        ensures { result ≡ self.now.turns }
+    {
+        self.turns
+    }
+
+    /// The run as a journal, whose history is legal.
+    pub fn into_journal(self) -> Journal
+        requires { IsSome self.stopped }
+        ensures script { result.script ≡ self.script }
+        ensures workers { result.workers ≡ self.workers }
+        ensures entries { result.entries ≡ self.entries }
+        ensures stop { self.stopped ≡ Some result.stop }
+        ensures legal { Legal result.script result.workers result.entries result.stop }
+    {
+        let Book {
+            script,
+            entries,
+            stopped,
+            ..
+        } = self;
+        match stopped {
+            Some(stop) => Journal {
+                workers: 1,
+                script,
+                entries: Items::from_vec(entries),
+                stop,
+            },
+            None => unreachable!(),
+        }
+    }
+}

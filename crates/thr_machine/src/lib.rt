@@ -1,0 +1,5 @@
+//! The thread machine: its state, and the history that led to it.
+#![tactic(auto)]
+
+pub mod book;
+mod place;

@@ -1,0 +1,27 @@
+//! Laws on histories.
+
+ghost use Rattle.std.specs.Prelude.{◌≡◌, ◌+◌, ◌≤◌, ℕ, ℤ, List, length, Some};
+ghost use Rattle.thr_values.specs.declared.event.Event.{Event};
+ghost use Rattle.thr_values.specs.declared.event.Stop.{Stop};
+ghost use Rattle.thr_syntax.specs.declared.tree.Script.{Script};
+ghost use Rattle.thr_values.specs.declared.event.Stop.TheVariants as stops;
+ghost use Rattle.thr_values.specs.declared.history.Entry.{Entry};
+ghost use Rattle.thr_model.specs.Machine.{State};
+ghost use Rattle.thr_model.specs.Built.{saying_script, AreBuiltLines};
+ghost use Rattle.thr_model.specs.Histories.{History, StopsWith, Legal, stop_at};
+ghost use Rattle.thr_model.specs.Play.{Past, past_of, play};
+
+/// What is played from the opening up to where a stop may stand is a legal history.
+pub fn played_events_are_legal()
+    ensures { (s : Script) (n : ℕ) (events : List Event) (past : Past) (stop : Stop) → play s n events (past_of s) ≡ Some past → StopsWith (stop_at s past.state past.entries) stop → Legal s n past.entries stop }
+{}
+
+/// The history of a script that says few numbers has fewer lines than the limit, so it ends where the thread ends.
+pub fn short_histories_finish()
+    ensures { (parameter : List ℕ) (numbers : List ℤ) (n : ℕ) (state : State) (events : List Event) (entries : List Entry) (turns : ℕ) (why : Stop) → length numbers + 3 ≤ 20000 → History (saying_script parameter numbers) n state events entries turns → stop_at (saying_script parameter numbers) state entries ≡ Some why → why ≡ stops.Finished }
+{}
+
+/// The lines of such a history are of three kinds.
+pub fn short_histories_have_built_lines()
+    ensures { (parameter : List ℕ) (numbers : List ℤ) (n : ℕ) (state : State) (events : List Event) (entries : List Entry) (turns : ℕ) → History (saying_script parameter numbers) n state events entries turns → AreBuiltLines entries }
+{}

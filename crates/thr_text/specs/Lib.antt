@@ -1,0 +1,4 @@
+pub mod Names
+pub mod Lexing
+pub mod Faults
+pub mod Journals

@@ -1,0 +1,74 @@
+-- How runs end.
+use Rattle.std.proofs.Common.{◌≡◌, ◌<◌, ℕ, List, [], length, refl, sym, ap, subst, arith, append-nil, inl, inr}
+use Rattle.std.specs.Prelude.{Option, Some, None, IfSome, ◌⊎◌}
+use Rattle.std.specs.Io.KnownBytes.{Appends}
+use Rattle.thr_values.specs.declared.event.Stop.{Stop}
+use Rattle.thr_values.specs.declared.event.Stop.TheVariants as stops
+use Rattle.thr_syntax.specs.declared.tree.Script.{Script}
+use Rattle.thr_wire.specs.Bytes.{TookMoreThan, TookAll}
+use Rattle.thr_model.specs.Built.{IsBuilt, AreBuiltLines}
+use Rattle.thr_model.specs.Histories.{History, stop_at}
+use Rattle.thr_model.proofs.Short.{short-finishes, short-lines}
+use Rattle.thr_machine.specs.Views.{BookView}
+use Rattle.thr_machine.specs.Books.{IsReached, stop_of}
+use Rattle.thr_top.specs.Small.{ReadsSmall}
+use Rattle.thr_top.specs.Driving.{IsFew, IsAtEnd}
+use Rattle.thr_top.specs.Answers.{RunEnds, answered, unread, no_memory, whole, max_script}
+
+gains-nothing : (o : Option (List ℕ)) → Appends o o []
+gains-nothing None = tt
+gains-nothing (Some xs) = sym (append-nil xs)
+
+pub ends-no-memory : (w : ℕ) (input : List ℕ) (old : Option (List ℕ)) → RunEnds w input old old 5
+ends-no-memory w input old = answered 5 [] (no_memory refl refl) (whole refl (gains-nothing old))
+
+pub ends-unread : (w : ℕ) (input : List ℕ) (old : Option (List ℕ)) → RunEnds w input old old 3
+ends-unread w input old = unread refl (gains-nothing old)
+
+-- what holds of the bytes that were read holds of those that were left, where they are told
+pub told-all : (left now : Option (List ℕ)) (bytes : List ℕ) (P : List ℕ → Type 0) → TookAll left now bytes → P bytes → IfSome left P
+told-all None now bytes P t p = tt
+told-all (Some before) (Some now) bytes P t p = subst P (sym t.0) p
+told-all (Some before) None bytes P t p = absurd t
+
+pub told-any : (left : Option (List ℕ)) (P : List ℕ → Type 0) → ((input : List ℕ) → P input) → IfSome left P
+told-any None P p = tt
+told-any (Some before) P p = p before
+
+-- where more than the limit was taken, more was left
+pub told-long : (left now : Option (List ℕ)) (P : List ℕ → Type 0) → IfSome left (λ before. TookMoreThan max_script before now) → ((input : List ℕ) → max_script < length input → P input) → IfSome left P
+told-long None now P t p = tt
+told-long (Some before) None P t p = absurd t
+told-long (Some before) (Some now) P t p = p before (omega arith)
+
+-- ---- books of scripts that say few numbers
+
+pub few-finishes : (b : BookView) (why : Stop) → IsFew b.script → IsReached b → Some why ≡ stop_of b → why ≡ stops.Finished
+few-finishes b why few r e =
+    short-finishes few.parameter few.numbers b.workers b.state r.events b.entries b.turns why few.few
+    (subst (λ (s : Script). History s b.workers b.state r.events b.entries b.turns) few.same r.history)
+    (subst (λ (s : Script). stop_at s b.state b.entries ≡ Some why) few.same (sym e))
+
+pub few-lines : (b : BookView) → IsFew b.script → IsReached b → AreBuiltLines b.entries
+few-lines b few r =
+    short-lines few.parameter few.numbers b.workers b.state r.events b.entries b.turns
+    (subst (λ (s : Script). History s b.workers b.state r.events b.entries b.turns) few.same r.history)
+
+pub at-end : (b after : BookView) (why : Stop) → IsFew b.script → IsReached b → Some why ≡ stop_of b → after ≡ record b { stopped = Some why } → IsAtEnd after
+at-end b after why few r e is =
+    subst IsAtEnd (sym is) (record { reached = record { events = r.events; history = r.history }; stopped = ap (λ (s : Stop). Some s) (few-finishes b why few r e) })
+
+pub few-built : (s : Script) → IsFew s → IsBuilt s
+few-built s few = record { parameter = few.parameter; numbers = few.numbers; same = few.same }
+
+pub few-of : (bytes : List ℕ) (s : Script) → ReadsSmall bytes s → IsFew s
+few-of bytes s r = record { parameter = r.parameter; numbers = r.numbers; few = r.few; same = r.same }
+
+pub not-memory : (stop : Stop) → stop ≡ stops.Finished → stop ≡ stops.Memory → ⊥
+not-memory stop e f = absurd (cc)
+
+-- one of three statuses, where the third is ruled out
+pub finishes-well : (status : ℕ) → (status ≡ 0) ⊎ ((status ≡ 5) ⊎ (status ≡ 4)) → (status ≡ 4 → ⊥) → (status ≡ 0) ⊎ (status ≡ 5)
+finishes-well status (inl e) never = inl e
+finishes-well status (inr (inl e)) never = inr e
+finishes-well status (inr (inr e)) never = absurd (never e)

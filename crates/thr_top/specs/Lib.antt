@@ -1,0 +1,4 @@
+pub mod Small
+pub mod Driving
+pub mod Printing
+pub mod Answers

@@ -1,0 +1,48 @@
+//! The words that the program is given, and the status that it ends with.
+
+ghost use Rattle.std.specs.Prelude.{◌≡◌, ◌↔◌, IsTrue, string_bytes};
+ghost use Rattle.thr_top.specs.Answers.{IsRunOne};
+
+use std::marker::Model;
+
+/// What the program ends with (README.md, "Statuses").
+#[derive(Clone, Copy, Debug, PartialEq, Eq)]
+pub struct Status(pub u8);
+
+/// A word of the command line, which contracts see as its bytes.
+#[derive(Drop)]
+pub struct Word {
+    text: String,
+}
+
+impl Model for Word {
+    ghost use Rattle.std.specs.Prelude.{List, ℕ, string_bytes};
+
+    ghost Value = { List ℕ };
+
+    ghost view = { λ w. string_bytes w.text };
+}
+
+impl Word {
+    pub fn new(text: String) -> Word
+        ensures { result ≡ string_bytes text }
+    {
+        Word { text }
+    }
+
+    fn is(&self, text: &str) -> bool
+        ensures { IsTrue result ↔ (self.now ≡ text.now) }
+    {
+        self.text.as_str() == text
+    }
+}
+
+/// Whether the words ask to run a script with one worker. No other command is built yet.
+pub fn asks_run_one(words: &[Word]) -> bool
+    ensures { IsTrue result ↔ IsRunOne words.now }
+{
+    match words {
+        [run, one] => run.is("run") && one.is("1"),
+        _ => false,
+    }
+}

@@ -1,0 +1,56 @@
+//! Runs a script to its end.
+
+ghost use Rattle.std.specs.Prelude.{◌≡◌, ◌<◌, IfOk, OnOk, IsSome, Some, None, true, false, length};
+ghost use Rattle.thr_values.specs.declared.event.Stop.TheVariants as stops;
+ghost use Rattle.thr_model.specs.Built.{AreBuiltLines};
+ghost use Rattle.thr_model.specs.Histories.{Legal};
+ghost use Rattle.thr_top.specs.Driving.{IsFew, IsGoing, IsAtEnd, room_of};
+
+use std::alloc::Global;
+use thr_machine::book::Book;
+use thr_syntax::journal::Journal;
+use thr_syntax::tree::Script;
+use thr_values::number::NoMemory;
+
+/// Makes one event, or the stop that holds. The answer is whether the book goes on.
+fn step(book: &mut Book) -> Result<bool, NoMemory>
+    requires { IsGoing book.old }
+    ensures same { (book.new.script ≡ book.old.script) × (book.new.workers ≡ book.old.workers) }
+    ensures more { IfOk result (λ more. more ≡ true → IsGoing book.new × (room_of book.new < room_of book.old)) }
+    ensures over { IfOk result (λ more. more ≡ false → IsAtEnd book.new) }
+{
+    if let Some(why) = book.stop_test() {
+        book.stop(why);
+        return Ok(false);
+    }
+    book.make_room()?;
+    if book.running(0).is_some() {
+        book.turn(0);
+    } else {
+        let _ = book.dispatch(0).unwrap();
+    }
+    Ok(true)
+}
+
+/// Makes events until a stop holds.
+fn drive(book: &mut Book) -> Result<(), NoMemory>
+    requires { IsGoing book.old }
+    ensures same { OnOk result ((book.new.script ≡ book.old.script) × (book.new.workers ≡ book.old.workers)) }
+    ensures over { OnOk result (IsAtEnd book.new) }
+{
+    while step(book)? {}
+    Ok(())
+}
+
+/// The journal of the one legal history of a script that says few numbers. Its thread ends.
+pub fn history_of(alloc: Global, script: Script) -> Result<Journal, NoMemory>
+    requires { IsFew script }
+    ensures legal { IfOk result (λ j. Legal script 1 j.entries j.stop) }
+    ensures stop { IfOk result (λ j. j.stop ≡ stops.Finished) }
+    ensures lines { IfOk result (λ j. AreBuiltLines j.entries) }
+    ensures same { IfOk result (λ j. (j.script ≡ script) × (j.workers ≡ 1)) }
+{
+    let mut book = Book::new(alloc, script, 1)?;
+    drive(&mut book)?;
+    Ok(book.into_journal())
+}

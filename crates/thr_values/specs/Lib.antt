@@ -1,0 +1,5 @@
+pub mod Names
+pub mod Exceptions
+pub mod Ranks
+pub mod Replies
+pub mod Words

@@ -1,0 +1,95 @@
+//! Devices in memory that have no faults of their own.
+
+ghost use Rattle.std.specs.Prelude.{◌≡◌, [], ◌++◌, length, drop, Some};
+
+use crate::fault::Failed;
+use crate::wire::{Sink, Source};
+use std::alloc::Global;
+use std::marker::Model;
+
+/// A source over bytes in memory that never fails. Contracts see the bytes that are left.
+#[derive(Drop)]
+pub struct GoodSource {
+    bytes: Vec<u8>,
+    at: usize,
+}
+
+impl Model for GoodSource {
+    ghost use Rattle.std.specs.Prelude.{List, ℕ, drop, ◌≤◌, vec_len};
+
+    ghost Value = { List ℕ };
+
+    ghost view = { λ s. drop s.at s.bytes.items };
+
+    ghost invariant = { λ s. s.at ≤ vec_len s.bytes };
+}
+
+impl GoodSource {
+    pub fn new(bytes: Vec<u8>) -> GoodSource
+        ensures { result ≡ bytes.items }
+    {
+        GoodSource { bytes, at: 0 }
+    }
+}
+
+impl Source for GoodSource {
+    ghost left = { λ s. Some s };
+
+    ghost faults = { λ _. 0 };
+
+    fn read(&mut self, buf: &mut [u8]) -> Result<usize, Failed> {
+        let left = &self.bytes.as_slice()[self.at..];
+        let n = left.len().min(buf.len());
+        buf[..n].copy_from_slice(&left[..n]);
+        self.at += n;
+        Ok(n)
+    }
+}
+
+/// A sink in memory that fails only where it finds no memory. Contracts see what it holds and how often it has failed.
+#[derive(Drop)]
+pub struct GoodSink {
+    bytes: Vec<u8>,
+    faults: u64,
+}
+
+impl Model for GoodSink {
+    ghost use Rattle.thr_wire.specs.Devices.{Device};
+
+    ghost Value = { Device };
+
+    ghost view = { λ s. record { bytes = s.bytes.items; faults = s.faults } };
+}
+
+impl GoodSink {
+    pub fn new(alloc: Global) -> GoodSink
+        ensures { result ≡ record { bytes = []; faults = 0 } }
+    {
+        GoodSink {
+            bytes: Vec::new(alloc),
+            faults: 0,
+        }
+    }
+
+    pub fn as_slice(&self) -> &[u8]
+        ensures { result.now ≡ self.now.bytes }
+    {
+        self.bytes.as_slice()
+    }
+}
+
+impl Sink for GoodSink {
+    ghost held = { λ s. Some s.bytes };
+
+    ghost faults = { λ s. s.faults };
+
+    fn write(&mut self, bytes: &[u8]) -> Result<usize, Failed> {
+        match self.bytes.extend_from_slice(bytes) {
+            Ok(()) => Ok(bytes.len()),
+            Err(_) => {
+                self.faults = self.faults.saturating_add(1);
+                Err(Failed)
+            }
+        }
+    }
+}

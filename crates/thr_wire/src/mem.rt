@@ -1,0 +1,151 @@
+//! Devices in memory that give and take little at a time, and fail where they are told to.
+
+ghost use Rattle.std.specs.Prelude.{◌≡◌, ◌<◌, [], ◌++◌, length, drop, Some};
+
+use crate::fault::Failed;
+use crate::wire::{Sink, Source};
+use std::alloc::Global;
+use std::marker::Model;
+
+/// When a device in memory fails, and how much it moves at a call.
+#[derive(Drop)]
+struct Schedule {
+    /// The calls that are to fail, by their numbers from 0 on.
+    failing: Vec<u64>,
+    /// How many bytes a call moves at most.
+    most: usize,
+    calls: u64,
+}
+
+impl Schedule {
+    /// Counts one call, and answers whether it is to fail.
+    fn fails_now(&mut self) -> bool
+        ensures { self.new.most ≡ self.old.most }
+    {
+        let call = self.calls;
+        self.calls = self.calls.saturating_add(1);
+        self.failing.contains(&call)
+    }
+}
+
+/// A source over bytes in memory. Contracts see the bytes that are left and how often it has failed.
+#[derive(Drop)]
+pub struct MemSource {
+    bytes: Vec<u8>,
+    at: usize,
+    schedule: Schedule,
+    faults: u64,
+}
+
+impl Model for MemSource {
+    ghost use Rattle.std.specs.Prelude.{drop, ◌≤◌, ◌<◌, vec_len};
+    ghost use Rattle.thr_wire.specs.Devices.{Device};
+
+    ghost Value = { Device };
+
+    ghost view = { λ s. record { bytes = drop s.at s.bytes.items; faults = s.faults } };
+
+    ghost invariant = { λ s. (s.at ≤ vec_len s.bytes) × (0 < s.schedule.most) };
+}
+
+impl MemSource {
+    /// A source of these bytes that gives at most `most` of them at a call. The calls with the numbers in `failing`, from
+    /// 0 on, fail.
+    pub fn new(bytes: Vec<u8>, most: usize, failing: Vec<u64>) -> MemSource
+        requires { 0 < most }
+        ensures { result ≡ record { bytes = bytes.items; faults = 0 } }
+    {
+        MemSource {
+            bytes,
+            at: 0,
+            schedule: Schedule {
+                failing,
+                most,
+                calls: 0,
+            },
+            faults: 0,
+        }
+    }
+
+    /// How many calls there were.
+    pub fn calls(&self) -> u64 {
+        self.schedule.calls
+    }
+}
+
+impl Source for MemSource {
+    ghost left = { λ s. Some s.bytes };
+
+    ghost faults = { λ s. s.faults };
+
+    fn read(&mut self, buf: &mut [u8]) -> Result<usize, Failed> {
+        if self.schedule.fails_now() {
+            self.faults = self.faults.saturating_add(1);
+            return Err(Failed);
+        }
+        let left = &self.bytes.as_slice()[self.at..];
+        let n = left.len().min(buf.len()).min(self.schedule.most);
+        buf[..n].copy_from_slice(&left[..n]);
+        self.at += n;
+        Ok(n)
+    }
+}
+
+/// A sink in memory. Contracts see what it holds and how often it has failed.
+#[derive(Drop)]
+pub struct MemSink {
+    bytes: Vec<u8>,
+    schedule: Schedule,
+    faults: u64,
+}
+
+impl Model for MemSink {
+    ghost use Rattle.std.specs.Prelude.{◌<◌};
+    ghost use Rattle.thr_wire.specs.Devices.{Device};
+
+    ghost Value = { Device };
+
+    ghost view = { λ s. record { bytes = s.bytes.items; faults = s.faults } };
+
+    ghost invariant = { λ s. 0 < s.schedule.most };
+}
+
+impl MemSink {
+    /// An empty sink that takes at most `most` bytes at a call. The calls with the numbers in `failing`, from 0 on, fail,
+    /// and so does a call that finds no memory.
+    pub fn new(alloc: Global, most: usize, failing: Vec<u64>) -> MemSink
+        requires { 0 < most }
+        ensures { result ≡ record { bytes = []; faults = 0 } }
+    {
+        MemSink {
+            bytes: Vec::new(alloc),
+            schedule: Schedule {
+                failing,
+                most,
+                calls: 0,
+            },
+            faults: 0,
+        }
+    }
+
+    pub fn as_slice(&self) -> &[u8]
+        ensures { result.now ≡ self.now.bytes }
+    {
+        self.bytes.as_slice()
+    }
+}
+
+impl Sink for MemSink {
+    ghost held = { λ s. Some s.bytes };
+
+    ghost faults = { λ s. s.faults };
+
+    fn write(&mut self, bytes: &[u8]) -> Result<usize, Failed> {
+        let n = bytes.len().min(self.schedule.most);
+        if self.schedule.fails_now() || self.bytes.extend_from_slice(&bytes[..n]).is_err() {
+            self.faults = self.faults.saturating_add(1);
+            return Err(Failed);
+        }
+        Ok(n)
+    }
+}
