@@ -6,6 +6,6 @@ use Rattle.thr_syntax.specs.Folds.{each_expr, each_stmt}
 use Rattle.thr_text.specs.Journals.{numbered, text}
 use Rattle.thr_model.specs.Play.{play}
 
-unfoldable pub row_words : Unit {0}
+unfoldable pub example_words : Unit {0}
 unfolding digits call_word tree_words each_expr each_stmt numbered text play
-row_words = tt
+example_words = tt

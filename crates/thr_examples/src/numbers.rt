@@ -8,8 +8,8 @@ ghost use Rattle.thr_syntax.specs.Canon.{canon};
 ghost use Rattle.thr_examples.specs.Texts.{lines_text};
 ghost use Rattle.thr_examples.specs.Numbers.{seven, seven_lines};
 
-/// `say 7` on one processor: the script's text, its one history, and the whole journal.
-#[tactic(auto, unfolding(crate::specs::Words::row_words))]
+/// `say 7` on one processor: the script's text, a legal history of it, and the whole journal.
+#[tactic(auto, unfolding(crate::specs::Words::example_words))]
 pub fn seven_is_said()
     ensures script { canon seven ≡ lines_text ("dcethr 1" ∷ "routine main a" ∷ "say 7" ∷ "end" ∷ []) }
     ensures history { Legal seven 1 seven_lines stops.Finished }

@@ -134,3 +134,18 @@ fn least_faults_of_bad_lines(rt: HostRuntime) {
         assert_eq!(rt; fault, Some(wanted), "{line:?}");
     }
 }
+
+/// The CR of a line's ending never comes to the lexer, and any other is no byte of a line.
+#[test]
+fn the_ending_of_a_line_is_taken_before(rt: HostRuntime) -> Result<(), Fail> {
+    let text = "a b\r\nc\r\r\nd\r";
+    let wanted = [None, Some(1), Some(1)];
+    for (line, fault) in text.lines().zip(wanted) {
+        let got = lex_line(rt.alloc(), line.as_bytes())
+            .err()
+            .map(|f| fault_number(&f));
+        assert_eq!(rt; got, fault, "{line:?}");
+    }
+    assert_eq!(rt; text.lines().count(), wanted.len());
+    Ok(())
+}

@@ -60,7 +60,7 @@ is-running a b p e h = subst (λ (v : BookView). IsSome (running v.state p)) (sy
 
 -- a thread runs on p only where p is the one processor
 pub on-processor : (ph : Phase) (p : ℕ) → IsSome {T = ℕ} (if runs_on p (standing_of ph) then Some 1 else None) → (ph ≡ phase.OnProcessor) × (p ≡ 0)
-on-processor phase.Waiting p h = absurd (cc)
+on-processor phase.Ready p h = absurd (cc)
 on-processor phase.OnProcessor p h = (refl, grind (arith, common_steps))
 on-processor phase.Over p h = absurd (cc)
 
@@ -94,7 +94,7 @@ pub turn-ends : (a : Inside) (p : ℕ) → a.phase ≡ phase.OnProcessor → p �
 turn-ends a p on none here = rw (on, none, here) refl
 
 -- the dispatch of the one thread
-pub thread-taken : (a : Inside) (p : ℕ) → a.phase ≡ phase.Waiting → p ≡ 0
+pub thread-taken : (a : Inside) (p : ℕ) → a.phase ≡ phase.Ready → p ≡ 0
     → made_by 1 (state_of a) (event.Dispatch p) ≡ Some (record { state = state_of (record a { phase = phase.OnProcessor; slice = 8 }); lines = run_line p 1 ∷ [] })
 thread-taken a p waits none = rw (waits, none) refl
 

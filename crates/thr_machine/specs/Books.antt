@@ -16,13 +16,13 @@ use Rattle.thr_machine.specs.declared.book.Book.TheInside.{Inside}
 -- ---- the representation
 
 abbrev pub standing_of : Phase → Standing
-standing_of phase.Waiting = Ready 0
+standing_of phase.Ready = Ready 0
 standing_of phase.OnProcessor = Running 0
 standing_of phase.Over = Ended (pos 0)
 
 -- The open calls: `main` with what is left of its body, until it is over.
 abbrev pub calls_of : Phase → List Stmt → List (List Stmt)
-calls_of phase.Waiting rest = rest ∷ []
+calls_of phase.Ready rest = rest ∷ []
 calls_of phase.OnProcessor rest = rest ∷ []
 calls_of phase.Over rest = []
 

@@ -21,7 +21,7 @@ use thr_values::number::{NoMemory, Tid};
 /// Where the one thread is.
 #[derive(Clone, Copy, Debug, PartialEq, Eq)]
 pub enum Phase {
-    Waiting,
+    Ready,
     OnProcessor,
     Over,
 }
@@ -84,7 +84,7 @@ impl Book {
             script,
             entries: Vec::new(alloc),
             place: 0,
-            phase: Phase::Waiting,
+            phase: Phase::Ready,
             slice: 8,
             turns: 0,
             stopped: None,
@@ -124,11 +124,12 @@ impl Book {
     pub fn dispatch(&mut self, p: u32) -> Option<Tid>
         requires { IsOpen self.old }
         ensures made { IfSome result (λ t. Makes self.old self.new (event.Dispatch p)) }
+        ensures thread { IfSome result (λ t. running self.new.state p ≡ Some t.0) }
         ensures none { IfNone result ((made_by self.old.workers self.old.state (event.Dispatch p) ≡ None) × (self.new ≡ self.old)) }
         ensures taken { p < self.old.workers → running self.old.state p ≡ None → IsSome result }
     {
         match self.phase {
-            Phase::Waiting if p == 0 => {
+            Phase::Ready if p == 0 => {
                 add(&mut self.entries, Who::Proc(p), What::Run(Tid(1)));
                 self.phase = Phase::OnProcessor;
                 self.slice = 8;
@@ -176,7 +177,7 @@ impl Book {
     {
         match self.phase {
             Phase::Over => Some(Stop::Finished),
-            Phase::Waiting | Phase::OnProcessor => {
+            Phase::Ready | Phase::OnProcessor => {
                 if self.entries.len() >= LIMIT {
                     Some(Stop::Limit)
                 } else {

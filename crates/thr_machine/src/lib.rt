@@ -2,4 +2,4 @@
 #![tactic(auto)]
 
 pub mod book;
-mod place;
+pub mod place;

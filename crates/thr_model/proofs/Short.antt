@@ -1,5 +1,5 @@
 -- Scripts that say few numbers: how many lines their histories have.
-use Rattle.std.proofs.Common.{◌≡◌, ℕ, ℤ, pos, ◌+◌, ◌≤◌, ◌<◌, Bool, true, false, List, [], ◌∷◌, ◌++◌, length, refl, subst, arith, length-append}
+use Rattle.std.proofs.Common.{◌≡◌, ℕ, ℤ, pos, ◌+◌, ◌≤◌, ◌<◌, Bool, true, false, List, [], ◌∷◌, ◌++◌, length, refl, ap, subst, arith, length-append}
 use Rattle.std.proofs.lemmas.List.{length-map}
 use Rattle.std.specs.Prelude.{Option, Some, None, if◌then◌else◌, ◌==◌, ◌&&◌, nat_lt, nat_le, is_none}
 use Rattle.std.specs.Option.{option_and_then}
@@ -9,11 +9,12 @@ use Rattle.thr_values.specs.declared.event.Event.{Event}
 use Rattle.thr_values.specs.declared.event.Event.TheVariants as event
 use Rattle.thr_values.specs.declared.event.Stop.{Stop}
 use Rattle.thr_values.specs.declared.event.Stop.TheVariants as stops
+use Rattle.thr_values.specs.declared.history.What.{What}
 use Rattle.thr_values.specs.declared.history.Entry.{Entry}
 use Rattle.thr_syntax.specs.declared.expr.Expr.{Num, Var, Me, Err, Two', Not', GetStatus, Matches}
 use Rattle.thr_syntax.specs.declared.tree.Stmt.{Stmt, Set, Say, If', While', TryCatch', TryFinally', Raise, Reraise, Call, Return, Exit, Dce}
 use Rattle.thr_values.specs.declared.scheduling.Policy.{Policy}
-use Rattle.thr_model.specs.Machine.{State, Remainder, Thread, Standing, Ready, Running, Ended, Made, made_by, statement_turn, turn_in, turn_of, takes, with_thread, has_ended}
+use Rattle.thr_model.specs.Machine.{State, Remainder, Thread, Standing, Ready, Running, Ended, Made, made_by, statement_turn, turn_in, turn_of, takes, thread_line, with_thread, has_ended}
 use Rattle.thr_model.specs.Histories.{History, opened, then_event, stop_at}
 use Rattle.thr_model.specs.Built.{saying_script, say, AreBuiltLines}
 
@@ -31,24 +32,25 @@ lines_left (Ended v) n = 0
 -- ---- one event of a machine with one thread
 
 -- a turn of thread t left this thread and wrote one line
-record TurnsTo (st : State) (t : ℕ) (made : Made) (most : ℕ) : Type 0 where
-  thread : Thread
-  threads : made.state.threads ≡ with_thread t thread st.threads
-  one : length made.lines ≡ 1
-  built : AreBuiltLines made.lines
-  lines : lines_left thread.standing (statements thread.remainder.calls) ≤ most
+pub record TurnsTo (st : State) (t : ℕ) (made : Made) (most : ℕ) : Type 0 where
+  pub thread : Thread
+  pub threads : made.state.threads ≡ with_thread t thread st.threads
+  pub what : What
+  pub line : made.lines ≡ thread_line t what ∷ []
+  pub built : AreBuiltLines made.lines
+  pub lines : lines_left thread.standing (statements thread.remainder.calls) ≤ most
 
-made-is : (a b : Made) → (let o : Option Made = Some a in o) ≡ Some b → a ≡ b
+pub made-is : (a b : Made) → (let o : Option Made = Some a in o) ≡ Some b → a ≡ b
 made-is a b e = cc
 
-never-made : {P : Type 0} (m : Made) → (let o : Option Made = None in o) ≡ Some m → P
+pub never-made : {P : Type 0} (m : Made) → (let o : Option Made = None in o) ≡ Some m → P
 never-made m e = absurd (cc)
 
 statement-turns : (st : State) (t : ℕ) (x : Thread) (q : ℕ) (s : Stmt) (rest : List Stmt) (calls : List (List Stmt)) (made : Made) → x.standing ≡ Running q
     → statement_turn st t x s rest calls ≡ Some made → TurnsTo st t made (length rest + statements calls + 1)
 statement-turns st t x q (Say (Num n)) rest calls made h e =
     subst (λ (m : Made). TurnsTo st t m (length rest + statements calls + 1)) (made-is _ made e)
-    (record { thread = record x { remainder = record { value = x.remainder.value; calls = rest ∷ calls }; slice = _ }; threads = refl; one = refl; built = (tt, tt); lines = rw h (omega arith) })
+    (record { thread = record x { remainder = record { value = x.remainder.value; calls = rest ∷ calls }; slice = _ }; threads = refl; what = _; line = refl; built = (tt, tt); lines = rw h (omega arith) })
 statement-turns st t x q (Say (Var v)) rest calls made h e = never-made made e
 statement-turns st t x q (Say Me) rest calls made h e = never-made made e
 statement-turns st t x q (Say Err) rest calls made h e = never-made made e
@@ -69,26 +71,26 @@ statement-turns st t x q (Exit y) rest calls made h e = never-made made e
 statement-turns st t x q (Dce y) rest calls made h e = never-made made e
 
 more-lines : (st : State) (t : ℕ) (made : Made) (m n : ℕ) → m ≤ n → TurnsTo st t made m → TurnsTo st t made n
-more-lines st t made m n h r = record { thread = r.thread; threads = r.threads; one = r.one; built = r.built; lines = omega arith }
+more-lines st t made m n h r = record { thread = r.thread; threads = r.threads; what = r.what; line = r.line; built = r.built; lines = omega arith }
 
-turn-turns : (st : State) (t : ℕ) (x : Thread) (q : ℕ) (v : ℤ) (calls : List (List Stmt)) (made : Made) → x.standing ≡ Running q
+pub turn-turns : (st : State) (t : ℕ) (x : Thread) (q : ℕ) (v : ℤ) (calls : List (List Stmt)) (made : Made) → x.standing ≡ Running q
     → turn_in st t x v calls ≡ Some made → TurnsTo st t made (statements calls)
 turn-turns st t x q v [] made h e =
     subst (λ (m : Made). TurnsTo st t m 0) (made-is _ made e)
-    (record { thread = record x { standing = Ended v; remainder = record { value = v; calls = [] } }; threads = refl; one = refl; built = (tt, tt); lines = omega arith })
+    (record { thread = record x { standing = Ended v; remainder = record { value = v; calls = [] } }; threads = refl; what = _; line = refl; built = (tt, tt); lines = omega arith })
 turn-turns st t x q v ([] ∷ calls) made h e = more-lines st t made _ _ (omega arith) (turn-turns st t x q (pos 0) calls made h e)
 turn-turns st t x q v ((s ∷ rest) ∷ calls) made h e = more-lines st t made _ _ (omega arith) (statement-turns st t x q s rest calls made h e)
 
 -- ---- an event where the thread is alone
 
-record LeftBy (made : Made) (left : ℕ) : Type 0 where
-  thread : Thread
-  alone : made.state.threads ≡ (1, thread) ∷ []
-  one : length made.lines ≡ 1
-  built : AreBuiltLines made.lines
-  lines : lines_left thread.standing (statements thread.remainder.calls) + 1 ≤ left
+pub record LeftBy (made : Made) (left : ℕ) : Type 0 where
+  pub thread : Thread
+  pub alone : made.state.threads ≡ (1, thread) ∷ []
+  pub one : length made.lines ≡ 1
+  pub built : AreBuiltLines made.lines
+  pub lines : lines_left thread.standing (statements thread.remainder.calls) + 1 ≤ left
 
-abbrev alone_with : Thread → ℕ → ℤ → State
+abbrev pub alone_with : Thread → ℕ → ℤ → State
 alone_with x a c = record { threads = (1, x) ∷ []; arrivals = a; clock = c }
 
 dispatch-left : (b : Bool) (x : Thread) (r p a : ℕ) (c : ℤ) (made : Made) → x.standing ≡ Ready r → (if b then Some (takes (alone_with x a c) p 1 x) else None) ≡ Some made → LeftBy made (lines_left x.standing (statements x.remainder.calls))
@@ -97,7 +99,7 @@ dispatch-left true x r p a c made h e =
     subst (λ (m : Made). LeftBy m (lines_left x.standing (statements x.remainder.calls))) (made-is _ made e)
     (record { thread = record x { standing = Running p; slice = 8 }; alone = refl; one = refl; built = (tt, tt); lines = rw h (omega arith) })
 
-no-dispatch : {P : Type 0} (b : Bool) (made : Made) → (if b then None else None) ≡ Some made → P
+pub no-dispatch : {P : Type 0} (b : Bool) (made : Made) → (if b then None else None) ≡ Some made → P
 no-dispatch true made e = never-made made e
 no-dispatch false made e = never-made made e
 
@@ -108,10 +110,10 @@ turn-left : (b : Bool) (x : Thread) (q a : ℕ) (c : ℤ) (made : Made) → x.st
 turn-left false x q a c made h e = never-made made e
 turn-left true x q a c made h e =
     let t = turn-turns (alone_with x a c) 1 x q x.remainder.value x.remainder.calls made h e in
-    record { thread = t.thread; alone = t.threads; one = t.one; built = t.built; lines = running-lines x.standing q (statements x.remainder.calls) _ h t.lines }
+    record { thread = t.thread; alone = t.threads; one = ap length t.line; built = t.built; lines = running-lines x.standing q (statements x.remainder.calls) _ h t.lines }
 
 -- each event of a machine whose one thread has this standing
-event-left : (n : ℕ) (sd : Standing) (r : Remainder) (po : Policy) (pr sl a : ℕ) (c : ℤ) (e : Event) (made : Made)
+pub event-left : (n : ℕ) (sd : Standing) (r : Remainder) (po : Policy) (pr sl a : ℕ) (c : ℤ) (e : Event) (made : Made)
     → made_by n (alone_with (record { standing = sd; remainder = r; policy = po; priority = pr; slice = sl }) a c) e ≡ Some made → LeftBy made (lines_left sd (statements r.calls))
 event-left n (Ready i) r po pr sl a c (event.Dispatch p) made e =
     dispatch-left (nat_lt p n && true) (record { standing = Ready i; remainder = r; policy = po; priority = pr; slice = sl }) i p a c made refl e

@@ -176,7 +176,7 @@ made_by n st event.Clock = None
 
 -- ---- the opening (docs/machine.md, "The opening")
 
--- The body of `main`, which is the only routine so far.
+-- The body of the first routine, which is `main` in each script that is built: they have no other.
 abbrev pub main_body : List Item → List Stmt
 main_body (item.Routine r ∷ items) = r.body
 main_body (_ ∷ items) = main_body items

@@ -16,6 +16,11 @@ pub fn played_events_are_legal()
     ensures { (s : Script) (n : ℕ) (events : List Event) (past : Past) (stop : Stop) → play s n events (past_of s) ≡ Some past → StopsWith (stop_at s past.state past.entries) stop → Legal s n past.entries stop }
 {}
 
+/// The lines of a history fix its events, and so its state and how many of its events are turns.
+pub fn lines_fix_the_events()
+    ensures { (s : Script) (n : ℕ) (state state' : State) (events events' : List Event) (entries : List Entry) (turns turns' : ℕ) → History s n state events entries turns → History s n state' events' entries turns' → (events ≡ events') × (state ≡ state') × (turns ≡ turns') }
+{}
+
 /// The history of a script that says few numbers has fewer lines than the limit, so it ends where the thread ends.
 pub fn short_histories_finish()
     ensures { (parameter : List ℕ) (numbers : List ℤ) (n : ℕ) (state : State) (events : List Event) (entries : List Entry) (turns : ℕ) (why : Stop) → length numbers + 3 ≤ 20000 → History (saying_script parameter numbers) n state events entries turns → stop_at (saying_script parameter numbers) state entries ≡ Some why → why ≡ stops.Finished }

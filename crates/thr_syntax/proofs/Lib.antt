@@ -1,3 +1,4 @@
 pub mod FoldLaws
 pub mod SharedLaws
 pub mod TreeInduction
+pub mod LineLaws

@@ -6,5 +6,8 @@ pub mod dce;
 pub mod expr;
 pub mod form;
 pub mod journal;
+pub mod laws;
 pub mod shared;
+#[cfg(test)]
+mod tests;
 pub mod tree;

@@ -112,13 +112,14 @@ const RESERVED: [&[u8]; 97] = [
     b"global",
 ];
 
-/// Whether a word stands in some line by itself.
-fn is_in(words: &[&[u8]], word: &[u8]) -> bool
+/// Whether a word is one of these.
+pub fn is_in(words: &[&[u8]], word: &[u8]) -> bool
     ensures { result ≡ list_any (λ w. bytes_eq word.now w.now) words.now }
 {
     words.iter().any(|w| word == *w)
 }
 
+/// Whether a word has a meaning in scripts, so that it is no name.
 #[tactic(auto, unfolding(crate::specs::Names::is_reserved, crate::specs::Names::reserved_words))]
 pub fn is_reserved(word: &[u8]) -> bool
     ensures { result ≡ is_reserved word.now }

@@ -1,3 +1,4 @@
 pub mod Spelling
 pub mod Endings
 pub mod SmallLaws
+pub mod SmallLengths

@@ -21,7 +21,9 @@ use Rattle.thr_syntax.specs.Canon.{line, canon, script_words}
 use Rattle.thr_text.specs.Journals.{numbered, what_words, who_word, stop_words, text}
 use Rattle.thr_model.specs.Machine.{main_body}
 use Rattle.thr_model.specs.Built.{IsBuilt, IsBuiltLine, AreBuiltLines, saying_script, say}
-use Rattle.thr_top.specs.Printing.{line_of, IsSay, AllSay, say_line, main_parameter, what_text, plain_lines, stop_text}
+use Rattle.thr_machine.specs.Bodies.{IsSay, AllSay}
+use Rattle.thr_top.specs.Answers.{one_line}
+use Rattle.thr_top.specs.Printing.{statement_line, main_parameter, what_text, plain_lines, stop_text}
 
 -- ---- the script
 
@@ -70,29 +72,29 @@ saying-lines s b =
     many-words [] = refl
     many-words (n ∷ ns) = omega (arith, many-words ns)
 
-body-text : (ns : List ℤ) → joined (map line (map say_words ns ++ end_words ∷ [])) ≡ flat_map say_line (map say ns) ++ line_of (codes "end")
+body-text : (ns : List ℤ) → joined (map line (map say_words ns ++ end_words ∷ [])) ≡ flat_map statement_line (map say ns) ++ one_line (codes "end")
 body-text [] = append-nil _
-body-text (n ∷ ns) = ap (λ (t : List ℕ). say_line (say n) ++ t) (body-text ns) ∙ sym (append_assoc (say_line (say n)) (flat_map say_line (map say ns)) (line_of (codes "end")))
+body-text (n ∷ ns) = ap (λ (t : List ℕ). statement_line (say n) ++ t) (body-text ns) ∙ sym (append_assoc (statement_line (say n)) (flat_map statement_line (map say ns)) (one_line (codes "end")))
 
 -- the canonical text of a script that says numbers
-saying-canon : (s : Script) → IsBuilt s → canon s ≡ line_of (codes "dcethr 1") ++ (line_of (codes "routine main " ++ main_parameter s.items) ++ (flat_map say_line (main_body s.items) ++ line_of (codes "end")))
+saying-canon : (s : Script) → IsBuilt s → canon s ≡ one_line (codes "dcethr 1") ++ (one_line (codes "routine main " ++ main_parameter s.items) ++ (flat_map statement_line (main_body s.items) ++ one_line (codes "end")))
 saying-canon s b =
-    subst (λ (x : Script). canon x ≡ line_of (codes "dcethr 1") ++ (line_of (codes "routine main " ++ main_parameter x.items) ++ (flat_map say_line (main_body x.items) ++ line_of (codes "end")))) (sym b.same)
+    subst (λ (x : Script). canon x ≡ one_line (codes "dcethr 1") ++ (one_line (codes "routine main " ++ main_parameter x.items) ++ (flat_map statement_line (main_body x.items) ++ one_line (codes "end")))) (sym b.same)
     (ap (λ (ls : List (List (List ℕ))). joined (map line ls)) (saying-words b.parameter b.numbers)
-    ∙ ap (λ (t : List ℕ). line_of (codes "dcethr 1") ++ (line_of (codes "routine main " ++ b.parameter) ++ t)) (body-text b.numbers))
+    ∙ ap (λ (t : List ℕ). one_line (codes "dcethr 1") ++ (one_line (codes "routine main " ++ b.parameter) ++ t)) (body-text b.numbers))
 
 -- one more statement is printed
 pub body-more : (first out next : List ℕ) (ss : List Stmt) (i : ℕ) (s : Stmt) (n : ℤ) → i < length ss → s ≡ slice_index_or ss i s → s ≡ say n
-    → out ≡ first ++ flat_map say_line (take i ss) → next ≡ out ++ line_of (codes "say " ++ signed_decimal n) → next ≡ first ++ flat_map say_line (take (i + 1) ss)
+    → out ≡ first ++ flat_map statement_line (take i ss) → next ≡ out ++ one_line (codes "say " ++ signed_decimal n) → next ≡ first ++ flat_map statement_line (take (i + 1) ss)
 body-more first out next ss i s n h e is o x =
     let here : take (i + 1) ss ≡ take i ss ++ s ∷ [] = take_more ss i s h ∙ ap (λ (t : Stmt). take i ss ++ t ∷ []) (sym e) in
-    let more : flat_map say_line (take (i + 1) ss) ≡ flat_map say_line (take i ss) ++ line_of (codes "say " ++ signed_decimal n)
-    = ap (flat_map say_line) here ∙ flat_map-append say_line (take i ss) (s ∷ []) ∙ ap (λ (t : List ℕ). flat_map say_line (take i ss) ++ t) (append-nil _ ∙ ap say_line is) in
-    x ∙ ap (λ (t : List ℕ). t ++ line_of (codes "say " ++ signed_decimal n)) o ∙ append_assoc first _ (line_of (codes "say " ++ signed_decimal n)) ∙ ap (λ (t : List ℕ). first ++ t) (sym more)
+    let more : flat_map statement_line (take (i + 1) ss) ≡ flat_map statement_line (take i ss) ++ one_line (codes "say " ++ signed_decimal n)
+    = ap (flat_map statement_line) here ∙ flat_map-append statement_line (take i ss) (s ∷ []) ∙ ap (λ (t : List ℕ). flat_map statement_line (take i ss) ++ t) (append-nil _ ∙ ap statement_line is) in
+    x ∙ ap (λ (t : List ℕ). t ++ one_line (codes "say " ++ signed_decimal n)) o ∙ append_assoc first _ (one_line (codes "say " ++ signed_decimal n)) ∙ ap (λ (t : List ℕ). first ++ t) (sym more)
 
 -- the script is printed in four steps
-pub script-steps : (s : Script) (first a b c d : List ℕ) → IsBuilt s → a ≡ first ++ line_of (codes "dcethr 1") → b ≡ a ++ line_of (codes "routine main " ++ main_parameter s.items)
-    → c ≡ b ++ flat_map say_line (main_body s.items) → d ≡ c ++ line_of (codes "end") → d ≡ first ++ canon s
+pub script-steps : (s : Script) (first a b c d : List ℕ) → IsBuilt s → a ≡ first ++ one_line (codes "dcethr 1") → b ≡ a ++ one_line (codes "routine main " ++ main_parameter s.items)
+    → c ≡ b ++ flat_map statement_line (main_body s.items) → d ≡ c ++ one_line (codes "end") → d ≡ first ++ canon s
 script-steps s first a b c d built ha hb hc hd =
     rw (hd, hc, hb, ha) (regroup-four first _ _ _ _ ∙ ap (λ (t : List ℕ). first ++ t) (sym (saying-canon s built)))
   where
@@ -109,7 +111,7 @@ built-line (e ∷ es) (suc i) d a h = built-line es i d a.1 (omega arith)
 glued : (a b y l : List ℕ) → (a ++ 32 ∷ (b ++ y)) ++ l ≡ a ++ 32 ∷ (b ++ (y ++ l))
 glued a b y l = append_assoc a (32 ∷ (b ++ y)) l ∙ ap (λ (t : List ℕ). a ++ 32 ∷ t) (append_assoc b y l)
 
-line-text : (names : List (List ℕ)) (n : ℕ) (who : List ℕ) (w : What) → IsBuiltLine w → line (decimal n ∷ who ∷ what_words names w) ≡ decimal n ++ 32 ∷ (who ++ 32 ∷ line_of (what_text w))
+line-text : (names : List (List ℕ)) (n : ℕ) (who : List ℕ) (w : What) → IsBuiltLine w → line (decimal n ∷ who ∷ what_words names w) ≡ decimal n ++ 32 ∷ (who ++ 32 ∷ one_line (what_text w))
 line-text names n who (what.Run t) h = glued (decimal n) who _ _
 line-text names n who (what.Say v) h = glued (decimal n) who _ _
 line-text names n who (what.End v) h = glued (decimal n) who _ _
@@ -120,7 +122,7 @@ unfolding numbered
 lines-text names n [] h = refl
 lines-text names n (e ∷ es) h = rw (line-text names n (who_word e.who) e.what h.0, lines-text names (n + 1) es h.1) refl
 
-pub stop-line : (stop : Stop) → line_of (stop_text stop) ≡ line (stop_words stop)
+pub stop-line : (stop : Stop) → one_line (stop_text stop) ≡ line (stop_words stop)
 stop-line stops.Finished = refl
 stop-line (stops.Deadlock n t) = refl
 stop-line stops.Limit = refl
@@ -132,20 +134,20 @@ regroup : (a b c d e f g : List ℕ) → (((((a ++ b) ++ c) ++ d) ++ e) ++ f) ++
 regroup a b c d e f g = simp append_assoc
 
 journal-text : (s : Script) (w k : ℕ) (es : List Entry) (stop : Stop) → IsBuilt s → AreBuiltLines es → k ≡ length (script_words s)
-    → (((((line_of (codes "dcethr journal 1") ++ line_of (codes "workers " ++ decimal w)) ++ line_of (codes "script " ++ decimal k)) ++ canon s) ++ line_of (codes "history")) ++ plain_lines 1 es) ++ line_of (stop_text stop) ≡ text s w es stop
+    → (((((one_line (codes "dcethr journal 1") ++ one_line (codes "workers " ++ decimal w)) ++ one_line (codes "script " ++ decimal k)) ++ canon s) ++ one_line (codes "history")) ++ plain_lines 1 es) ++ one_line (stop_text stop) ≡ text s w es stop
 unfolding text
 journal-text s w k es stop b h e =
-    regroup (line_of (codes "dcethr journal 1")) (line_of (codes "workers " ++ decimal w)) _ (canon s) (line_of (codes "history")) _ _
-    ∙ ap (λ (n : ℕ). whole (line_of (codes "script " ++ decimal n)) (plain_lines 1 es) (line_of (stop_text stop))) e
-    ∙ ap (λ (t : List ℕ). whole (line_of (codes "script " ++ decimal (length (script_words s)))) t (line_of (stop_text stop))) (lines-text s.names 1 es h)
-    ∙ ap (λ (t : List ℕ). whole (line_of (codes "script " ++ decimal (length (script_words s)))) (numbered s.names 1 es) t) (stop-line stop)
+    regroup (one_line (codes "dcethr journal 1")) (one_line (codes "workers " ++ decimal w)) _ (canon s) (one_line (codes "history")) _ _
+    ∙ ap (λ (n : ℕ). whole (one_line (codes "script " ++ decimal n)) (plain_lines 1 es) (one_line (stop_text stop))) e
+    ∙ ap (λ (t : List ℕ). whole (one_line (codes "script " ++ decimal (length (script_words s)))) t (one_line (stop_text stop))) (lines-text s.names 1 es h)
+    ∙ ap (λ (t : List ℕ). whole (one_line (codes "script " ++ decimal (length (script_words s)))) (numbered s.names 1 es) t) (stop-line stop)
   where
     whole : List ℕ → List ℕ → List ℕ → List ℕ
-    whole c f g = line_of (codes "dcethr journal 1") ++ (line_of (codes "workers " ++ decimal w) ++ (c ++ (canon s ++ (line_of (codes "history") ++ (f ++ g)))))
+    whole c f g = one_line (codes "dcethr journal 1") ++ (one_line (codes "workers " ++ decimal w) ++ (c ++ (canon s ++ (one_line (codes "history") ++ (f ++ g)))))
 
 -- the journal is printed in seven steps
 pub journal-steps : (s : Script) (w k : ℕ) (es : List Entry) (stop : Stop) (none a b c d e f g last : List ℕ) → IsBuilt s → AreBuiltLines es → k ≡ length (script_words s) → none ≡ []
-    → a ≡ none ++ line_of (codes "dcethr journal 1") → b ≡ a ++ line_of (codes "workers " ++ decimal w) → c ≡ b ++ line_of (codes "script " ++ decimal k) → d ≡ c ++ canon s
-    → e ≡ d ++ line_of (codes "history") → f ≡ e ++ plain_lines 1 es → last ≡ stop_text stop → g ≡ f ++ line_of last → g ≡ text s w es stop
+    → a ≡ none ++ one_line (codes "dcethr journal 1") → b ≡ a ++ one_line (codes "workers " ++ decimal w) → c ≡ b ++ one_line (codes "script " ++ decimal k) → d ≡ c ++ canon s
+    → e ≡ d ++ one_line (codes "history") → f ≡ e ++ plain_lines 1 es → last ≡ stop_text stop → g ≡ f ++ one_line last → g ≡ text s w es stop
 journal-steps s w k es stop none a b c d e f g last built lines count hn ha hb hc hd he hf hl hg =
     rw (hg, hl, hf, he, hd, hc, hb, ha, hn) (journal-text s w k es stop built lines count)

@@ -1,5 +1,5 @@
 -- The texts that the printer makes, piece by piece. That they are the journal's text is proved.
-use Rattle.std.specs.Prelude.{ℕ, ◌+◌, List, [], ◌∷◌, ◌++◌, codes, slice_get, unwrap_or, ⊤}
+use Rattle.std.specs.Prelude.{ℕ, ◌+◌, List, [], ◌∷◌, ◌++◌, codes, slice_get, unwrap_or}
 use Rattle.std.specs.Fmt.{decimal, signed_decimal}
 use Rattle.thr_values.specs.declared.event.Stop.{Stop}
 use Rattle.thr_values.specs.declared.event.Stop.TheVariants as stops
@@ -12,23 +12,12 @@ use Rattle.thr_syntax.specs.declared.tree.Stmt.TheVariants as stmt
 use Rattle.thr_syntax.specs.declared.tree.Item.{Item}
 use Rattle.thr_syntax.specs.declared.tree.Item.TheVariants as item
 use Rattle.thr_text.specs.Journals.{who_word}
-
--- A text with the line's end.
-abbrev pub line_of : List ℕ → List ℕ
-line_of text = text ++ 10 ∷ []
-
-abbrev pub IsSay : Stmt → Type 0
-IsSay (stmt.Say (expr.Num n)) = ⊤
-IsSay _ = ⊥
-
-abbrev pub AllSay : List Stmt → Type 0
-AllSay [] = ⊤
-AllSay (s ∷ ss) = IsSay s × AllSay ss
+use Rattle.thr_top.specs.Answers.{one_line}
 
 -- The line of a statement that says a number.
-abbrev pub say_line : Stmt → List ℕ
-say_line (stmt.Say (expr.Num n)) = line_of (codes "say " ++ signed_decimal n)
-say_line _ = []
+abbrev pub statement_line : Stmt → List ℕ
+statement_line (stmt.Say (expr.Num n)) = one_line (codes "say " ++ signed_decimal n)
+statement_line _ = []
 
 -- The parameter of `main`, where it is the first declaration.
 abbrev pub main_parameter : List Item → List ℕ
@@ -43,7 +32,7 @@ what_text (what.End n) = codes "end " ++ signed_decimal n
 what_text _ = []
 
 abbrev pub plain_line : ℕ → Entry → List ℕ
-plain_line n e = decimal n ++ 32 ∷ (who_word e.who ++ 32 ∷ line_of (what_text e.what))
+plain_line n e = decimal n ++ 32 ∷ (who_word e.who ++ 32 ∷ one_line (what_text e.what))
 
 -- Numbered lines, from this number on.
 abbrev pub plain_lines : ℕ → List Entry → List ℕ

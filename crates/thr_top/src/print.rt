@@ -7,10 +7,12 @@ ghost use Rattle.thr_syntax.specs.Canon.{canon, script_words};
 ghost use Rattle.thr_text.specs.Journals.{text, who_word};
 ghost use Rattle.thr_model.specs.Machine.{main_body};
 ghost use Rattle.thr_model.specs.Built.{IsBuilt, IsBuiltLine, AreBuiltLines, say};
-ghost use Rattle.thr_top.specs.Printing.{line_of, say_line, what_text, plain_line, plain_lines, stop_text, IsSay, AllSay, main_parameter};
+ghost use Rattle.thr_machine.specs.Bodies.{AllSay};
+ghost use Rattle.thr_top.specs.Answers.{one_line};
+ghost use Rattle.thr_top.specs.Printing.{statement_line, what_text, plain_line, plain_lines, stop_text, main_parameter};
 
 use std::alloc::{AllocError, Global};
-use thr_syntax::expr::Expr;
+use thr_machine::place::{body_of, number_of};
 use thr_syntax::journal::Journal;
 use thr_syntax::tree::{Item, Script, Stmt};
 use thr_values::event::Stop;
@@ -19,7 +21,7 @@ use thr_values::number::Tid;
 
 /// Adds a text and the line's end.
 fn add_line(out: &mut Vec<u8>, text: &[u8]) -> Result<(), AllocError>
-    ensures { OnOk result (out.new.items ≡ out.old.items ++ line_of text.now) }
+    ensures { OnOk result (out.new.items ≡ out.old.items ++ one_line text.now) }
 {
     out.extend_from_slice(text)?;
     out.push(b'\n')?;
@@ -28,7 +30,7 @@ fn add_line(out: &mut Vec<u8>, text: &[u8]) -> Result<(), AllocError>
 
 /// Adds two texts and the line's end.
 fn add_pair(out: &mut Vec<u8>, first: &[u8], second: &[u8]) -> Result<(), AllocError>
-    ensures { OnOk result (out.new.items ≡ out.old.items ++ line_of (first.now ++ second.now)) }
+    ensures { OnOk result (out.new.items ≡ out.old.items ++ one_line (first.now ++ second.now)) }
 {
     out.extend_from_slice(first)?;
     out.extend_from_slice(second)?;
@@ -38,7 +40,7 @@ fn add_pair(out: &mut Vec<u8>, first: &[u8], second: &[u8]) -> Result<(), AllocE
 
 /// Adds a text, a number and the line's end.
 fn add_count(alloc: Global, out: &mut Vec<u8>, text: &[u8], count: u64) -> Result<(), AllocError>
-    ensures { OnOk result (out.new.items ≡ out.old.items ++ line_of (text.now ++ decimal count)) }
+    ensures { OnOk result (out.new.items ≡ out.old.items ++ one_line (text.now ++ decimal count)) }
 {
     let count = count.to_string(alloc)?;
     add_pair(out, text, count.as_bytes())
@@ -46,24 +48,10 @@ fn add_count(alloc: Global, out: &mut Vec<u8>, text: &[u8], count: u64) -> Resul
 
 // ---- the script
 
-/// The number that a statement says.
-fn number_of(stmt: &Stmt) -> i64
-    requires { IsSay stmt.now }
-    ensures { stmt.now ≡ say result }
-{
-    match stmt {
-        Stmt::Say(Expr::Num(number)) => {
-            let number = *number;
-            number
-        }
-        _ => unreachable!(),
-    }
-}
-
 /// Adds the lines of statements that say numbers.
 fn add_body(alloc: Global, out: &mut Vec<u8>, body: &[Stmt]) -> Result<(), AllocError>
     requires { AllSay body.now }
-    ensures { OnOk result (out.new.items ≡ out.old.items ++ flat_map say_line body.now) }
+    ensures { OnOk result (out.new.items ≡ out.old.items ++ flat_map statement_line body.now) }
 {
     for stmt in body {
         let number = number_of(stmt);
@@ -71,17 +59,6 @@ fn add_body(alloc: Global, out: &mut Vec<u8>, body: &[Stmt]) -> Result<(), Alloc
         add_pair(out, b"say ", number.as_bytes())?;
     }
     Ok(())
-}
-
-/// The body of `main`.
-fn body_of(script: &Script) -> &[Stmt]
-    requires { IsBuilt script.now }
-    ensures { result.now ≡ main_body script.now.items }
-{
-    match script.items.as_slice() {
-        [Item::Routine(routine), ..] => routine.body.as_slice(),
-        _ => unreachable!(),
-    }
 }
 
 /// The parameter of `main`.

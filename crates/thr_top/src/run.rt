@@ -42,7 +42,7 @@ fn drive(book: &mut Book) -> Result<(), NoMemory>
     Ok(())
 }
 
-/// The journal of the one legal history of a script that says few numbers. Its thread ends.
+/// The journal of a legal history of a script that says few numbers. Its thread ends.
 pub fn history_of(alloc: Global, script: Script) -> Result<Journal, NoMemory>
     requires { IsFew script }
     ensures legal { IfOk result (λ j. Legal script 1 j.entries j.stop) }

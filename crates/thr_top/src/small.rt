@@ -15,7 +15,7 @@ use sqlite_items::Items;
 use std::alloc::{AllocError, Global};
 use thr_syntax::expr::Expr;
 use thr_syntax::tree::{Item, Routine, Script, Stmt};
-use thr_text::names::is_name;
+use thr_text::names::{is_in, is_name};
 use thr_values::name::Name;
 use thr_values::number::NameId;
 
@@ -84,13 +84,6 @@ fn number_of(alloc: Global, text: &[u8]) -> Result<Option<i64>, AllocError>
     } else {
         Ok(None)
     }
-}
-
-/// Whether a word is one of these.
-fn is_in(words: &[&[u8]], word: &[u8]) -> bool
-    ensures { result ≡ list_any (λ w. bytes_eq word.now w.now) words.now }
-{
-    words.iter().any(|w| word == *w)
 }
 
 /// Whether a word is a name that is neither declared nor built in.

@@ -1,6 +1,7 @@
 //! The top call.
 
-ghost use Rattle.std.specs.Prelude.{◌≡◌, ◌≢◌, ◌≤◌, ◌⊎◌, IfSome, List, ℕ, length};
+ghost use Rattle.std.specs.Prelude.{◌≡◌, ◌≢◌, ◌≤◌, ◌+◌, ◌⊎◌, IfSome, List, [], ℕ, Some, length};
+ghost use Rattle.thr_wire.specs.Bytes.{TookAtMost, TookMoreThan};
 ghost use Rattle.thr_wire.specs.Causes.{Rose};
 ghost use Rattle.thr_top.specs.Answers.{IsRunOne, IsSmall, RunEnds, Writes, max_script, usage};
 ghost use Rattle.thr_top.specs.Driving.{IsFew};
@@ -77,12 +78,15 @@ pub fn top<S: Source, K: Sink>(
     ensures only_usage { result.0 ≡ 1 → ¬ (IsRunOne words.now) }
     ensures unread { ¬ (IsRunOne words.now) → source.new ≡ source.old }
 
+    // `run 1` takes all that the source has left, or more than the limit of it and nothing behind the byte that shows so.
+    ensures at_most { IsRunOne words.now → TookAtMost (max_script + 1) (S.left source.old) (S.left source.new) }
+    ensures taken { IsRunOne words.now → result.0 ≢ 3 → result.0 ≢ 5 → IfSome (S.left source.old) (λ input. (S.left source.new ≡ Some []) ⊎ TookMoreThan max_script input (S.left source.new)) }
+
     // `run 1` writes the journal of a legal history of the script, or what stands in its place. Where no device has a
     // fault, a script of the small form gives 0, or 5 for want of memory.
     ensures run { IsRunOne words.now → IfSome (S.left source.old) (λ input. RunEnds 1 input (K.held sink.old) (K.held sink.new) result.0) }
     ensures complete { IsRunOne words.now → IfSome (S.left source.old) (λ input.
-        length input ≤ max_script → IsSmall input
-        → ¬ (Rose (S.faults source.old) (S.faults source.new)) → ¬ (Rose (K.faults sink.old) (K.faults sink.new))
+        IsSmall input → ¬ (Rose (S.faults source.old) (S.faults source.new)) → ¬ (Rose (K.faults sink.old) (K.faults sink.new))
         → (result.0 ≡ 0) ⊎ (result.0 ≡ 5)) }
 
     // Faults of the devices are their own.

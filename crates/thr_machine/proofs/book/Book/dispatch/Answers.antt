@@ -14,11 +14,11 @@ invariant_of-self c =
     let after : Inside = record c.self.inside { entries = c.add.new.entries; phase = phase.OnProcessor; slice = 8 } in
     let open_ = is-open c.self.inside c.args.self.now c.self.view_is c.requires in
     kept-next c.self.inside after (event.Dispatch c.args.p) c.self.invariant open_.0 open_.1
-    (makes-event c.self.inside after (event.Dispatch c.args.p) (run_line c.args.p 1) (thread-taken c.self.inside c.args.p c.in-Waiting.is c.if-p-eq0.true) refl refl c.add.ensures.items (omega arith))
+    (makes-event c.self.inside after (event.Dispatch c.args.p) (run_line c.args.p 1) (thread-taken c.self.inside c.args.p c.in-Ready.is c.if-p-eq0.true) refl refl c.add.ensures.items (omega arith))
     refl refl (grind (arith, common_steps))
 
-pub returns-in-Waiting-clause-made : goal.returns-in-Waiting-clause-made
-returns-in-Waiting-clause-made c =
+pub returns-in-Ready-clause-made : goal.returns-in-Ready-clause-made
+returns-in-Ready-clause-made c =
     let after : Inside = record c.self.inside { entries = c.add.new.entries; phase = phase.OnProcessor; slice = 8 } in
     subst (λ (b : BookView). Makes b (view_of after) (event.Dispatch c.args.p)) c.self.view_is
-    (makes-event c.self.inside after (event.Dispatch c.args.p) (run_line c.args.p 1) (thread-taken c.self.inside c.args.p c.in-Waiting.is c.if-p-eq0.true) refl refl c.add.ensures.items (omega arith))
+    (makes-event c.self.inside after (event.Dispatch c.args.p) (run_line c.args.p 1) (thread-taken c.self.inside c.args.p c.in-Ready.is c.if-p-eq0.true) refl refl c.add.ensures.items (omega arith))

@@ -6,7 +6,7 @@ use Rattle.thr_machine.proofs.book.Book.new.Goals as goal
 pub invariant_of-result : goal.invariant_of-result
 invariant_of-result c = record {
   built = c.requires.built;
-  reached = reached-opening (record { script = c.args.script; entries = c.new.result; place = 0; phase = phase.Waiting; slice = 8; turns = 0; stopped = None }) c.new.ensures.items refl refl;
+  reached = reached-opening (record { script = c.args.script; entries = c.new.result; place = 0; phase = phase.Ready; slice = 8; turns = 0; stopped = None }) c.new.ensures.items refl refl;
   counted = omega arith;
   stopped = tt;
 }
