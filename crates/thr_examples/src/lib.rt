@@ -1,5 +1,9 @@
-//! Worked scripts with their histories, computed from the definitions: each is a function that does nothing and whose
-//! contract is the example.
+//! Worked scripts with their histories, and lines and texts with their faults, computed from the definitions: each is a
+//! function that does nothing and whose contract is the example.
 #![tactic(auto)]
 
+pub mod forms;
+pub mod large;
+pub mod lines;
 pub mod numbers;
+pub mod reading;

@@ -14,7 +14,7 @@ use Rattle.thr_text.specs.declared.word.Word.TheVariants.{Num, Name, Mark}
 use Rattle.thr_text.specs.Names.{is_letter, is_letter_or_digit, has_name_form}
 use Rattle.thr_text.specs.Lexing.{is_plain, is_blank, is_hash, is_something, has_minus, has_number_form, and_digit, magnitude, word_of, pieces_between, pieces_of, words_of, word_text, line_text, is_ink, IsOfLine, AreOfLine}
 
-and_both : (a b : Bool) → (a && b) ≡ true → (a ≡ true) × (b ≡ true)
+pub and_both : (a b : Bool) → (a && b) ≡ true → (a ≡ true) × (b ≡ true)
 and_both true b e = (refl, e)
 and_both false b e = absurd cc
 
@@ -46,7 +46,7 @@ split_last (b ∷ t) e =
     let s = and_both (is_ink b) (list_all is_ink t) e in
     rw (ink_no_blank b s.0, split_last t s.1) refl
 
-abbrev AreInked : List (List ℕ) → Type 0
+abbrev pub AreInked : List (List ℕ) → Type 0
 AreInked [] = Unit {0}
 AreInked (t ∷ ts) = ((is_something t ≡ true) × (list_all is_ink t ≡ true)) × AreInked ts
 
@@ -57,7 +57,7 @@ pieces_again (t ∷ u ∷ ts) h = rw (split_more t (join_with_byte 32 (u ∷ ts)
 
 -- ---- no comment
 
-abbrev unhashed : ℕ → Bool
+abbrev pub unhashed : ℕ → Bool
 unhashed b = not (is_hash b)
 
 whole_prefix : (xs : List ℕ) → list_all unhashed xs ≡ true → prefix_len unhashed xs ≡ length xs
@@ -67,13 +67,13 @@ whole_prefix (x ∷ xs) e = let s = and_both (unhashed x) (list_all unhashed xs)
 before_none : (xs : List ℕ) → list_all unhashed xs ≡ true → before_first is_hash xs ≡ xs
 before_none xs e = take_all (position_or_len is_hash xs) xs (omega (arith, whole_prefix xs e))
 
-join_unhashed : (ts : List (List ℕ)) → AreInked ts → list_all unhashed (join_with_byte 32 ts) ≡ true
-join_unhashed [] h = refl
-join_unhashed (t ∷ []) h = all_weaker is_ink unhashed ink_no_hash t h.0.1
-join_unhashed (t ∷ u ∷ ts) h = list_all-append unhashed t (32 ∷ join_with_byte 32 (u ∷ ts)) ∙ rw (all_weaker is_ink unhashed ink_no_hash t h.0.1) (join_unhashed (u ∷ ts) h.1)
+pub join_all : (p : ℕ → Bool) → ((b : ℕ) → is_ink b ≡ true → p b ≡ true) → p 32 ≡ true → (ts : List (List ℕ)) → AreInked ts → list_all p (join_with_byte 32 ts) ≡ true
+join_all p w s [] h = refl
+join_all p w s (t ∷ []) h = all_weaker is_ink p w t h.0.1
+join_all p w s (t ∷ u ∷ ts) h = list_all-append p t (32 ∷ join_with_byte 32 (u ∷ ts)) ∙ rw (all_weaker is_ink p w t h.0.1, s) (join_all p w s (u ∷ ts) h.1)
 
-texts_again : (ts : List (List ℕ)) → AreInked ts → pieces_of (join_with_byte 32 ts) ≡ ts
-texts_again ts h = ap pieces_between (before_none (join_with_byte 32 ts) (join_unhashed ts h)) ∙ pieces_again ts h
+pub texts_again : (ts : List (List ℕ)) → AreInked ts → pieces_of (join_with_byte 32 ts) ≡ ts
+texts_again ts h = ap pieces_between (before_none (join_with_byte 32 ts) (join_all unhashed ink_no_hash refl ts h)) ∙ pieces_again ts h
 
 -- ---- each word
 
@@ -83,13 +83,13 @@ letter_ink b e = grind (arith, nat_tests)
 digit_ink : (b : ℕ) → is_ascii_digit b ≡ true → is_ink b ≡ true
 digit_ink b e = grind (arith, nat_tests)
 
-abbrev AreDigits : List ℕ → Type 0
+abbrev pub AreDigits : List ℕ → Type 0
 AreDigits ds = list_all is_ascii_digit ds ≡ true
 
-own : IsNumeralModel AreDigits (fold and_digit 0)
+pub own : IsNumeralModel AreDigits (fold and_digit 0)
 own = numerals_by_fold _ (search rules) (fold and_digit) (search rules)
 
-no_minus : (ds : List ℕ) → AreDigits ds → has_minus ds ≡ false
+pub no_minus : (ds : List ℕ) → AreDigits ds → has_minus ds ≡ false
 no_minus [] e = refl
 no_minus (d ∷ ds) e = let digit = (and_both (is_ascii_digit d) (list_all is_ascii_digit ds) e).0 in digit_no_minus d digit
   where
@@ -139,7 +139,7 @@ word_inked (Name bytes) h =
     (something bytes (and_both (nat_lt 0 (length bytes)) (nat_le (length bytes) 24) b.0).0, all_weaker is_letter_or_digit is_ink letter_ink bytes a.1)
 word_inked (Mark bytes) h = (h.2, h.3)
 
-inked : (ws : List Word) → AreOfLine ws → AreInked (map word_text ws)
+pub inked : (ws : List Word) → AreOfLine ws → AreInked (map word_text ws)
 inked [] h = tt
 inked (w ∷ ws) h = (word_inked w h.0, inked ws h.1)
 

@@ -1,2 +1,5 @@
 pub mod Pieces
 pub mod Canon
+pub mod OfLine
+pub mod Shorter
+pub mod Faultless

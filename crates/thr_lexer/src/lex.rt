@@ -3,8 +3,7 @@
 ghost use Rattle.std.specs.Prelude.{◌≡◌, ◌-◌, ◌^◌, ◌≤◌, ◌⊎◌, fold, pos, neg_ℤ, nat_lt, true, false, List, [], map, min, length, position, IfOk, IfErr, IfSome, is_none};
 ghost use Rattle.std.specs.List.{list_any, list_all, before_first};
 ghost use Rattle.std.specs.Char.{is_ascii_digit};
-ghost use Rattle.thr_text.specs.declared.word.Word.{Word};
-ghost use Rattle.thr_text.specs.Lexing.{is_plain, is_blank, is_hash, pieces_between, has_minus, digits_of, has_number_form, and_digit, value_of, is_too_large, word_of, words_of, line_text, AreOfLine};
+ghost use Rattle.thr_text.specs.Lexing.{is_plain, is_blank, is_hash, pieces_between, has_minus, digits_of, has_number_form, and_digit, value_of, is_too_large, word_of, words_of};
 ghost use Rattle.thr_text.specs.Faults.{word_faults};
 ghost use Rattle.thr_lexer.specs.Refusals.{Refuses};
 
@@ -174,8 +173,3 @@ pub fn lex_line(alloc: Global, line: &[u8]) -> Result<Words, LexFault>
     }
     Ok(words)
 }
-
-/// The canonical text of words that a line may have is a line with just these words (docs/script.md, "The canonical text").
-pub fn words_are_read_again()
-    ensures { (words : List Word) → AreOfLine words → words_of (line_text words) ≡ words }
-{}

@@ -2,7 +2,9 @@
 #![tactic(auto)]
 
 pub mod fault;
+pub mod laws;
 pub mod lex;
+pub mod line;
 #[cfg(test)]
 mod tests;
 pub mod words;

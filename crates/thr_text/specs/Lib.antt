@@ -1,4 +1,13 @@
 pub mod Names
 pub mod Lexing
 pub mod Faults
+pub mod Heads
+pub mod Slots
+pub mod Grammar
+pub mod Blocks
+pub mod Tables
+pub mod NameFaults
+pub mod Reading
+pub mod Refusals
 pub mod Journals
+pub mod Computing

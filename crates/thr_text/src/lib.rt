@@ -1,5 +1,13 @@
-//! Texts of scripts and journals: definitions, the words of lines, and the table of reserved words.
+//! Texts of scripts and journals: definitions, the words of lines, the tables of reserved words and of first words, and laws
+//! of line forms.
 #![tactic(auto)]
 
+pub mod block;
+pub mod fault;
+pub mod head;
+pub mod laws;
 pub mod names;
+pub mod object;
+pub mod operands;
+pub mod slots;
 pub mod word;

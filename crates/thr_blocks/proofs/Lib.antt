@@ -1,0 +1,9 @@
+pub mod AgainLaws
+pub mod BuildLaws
+pub mod Determined
+pub mod FaultlessLaws
+pub mod Flat
+pub mod NestLaws
+pub mod PutLaws
+pub mod Walks
+pub mod PlacementLaws

@@ -1,0 +1,5 @@
+use Rattle.thr_blocks.proofs.NestLaws.{lines_nest}
+use Rattle.thr_blocks.proofs.build.lines_of_trees_nest.Goals as goal
+
+pub returns : goal.returns
+returns c = lines_nest

@@ -1,0 +1,4 @@
+pub mod Build
+pub mod Levels
+pub mod Trees
+pub mod Placement

@@ -1,0 +1,4 @@
+pub mod Steps
+pub mod LineEnds
+pub mod LineScans
+pub mod FirstFaultLaws

@@ -1,0 +1,5 @@
+pub mod Limits
+pub mod Capped
+pub mod Widths
+pub mod Walks
+pub mod Printing

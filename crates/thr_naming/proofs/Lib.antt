@@ -1,0 +1,9 @@
+pub mod TableLaws
+pub mod Lists
+pub mod PlacingLaws
+pub mod LineLaws
+pub mod JudgedLaws
+pub mod NameLaws
+pub mod Walks
+pub mod FaultLaws
+pub mod EntryLaws
