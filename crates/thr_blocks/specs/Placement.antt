@@ -1,7 +1,7 @@
 -- Which line of a text is the first that isn't well placed (docs/script.md, "Blocks").
-use Rattle.std.specs.Prelude.{◌≡◌, ℕ, List, [], ◌∷◌, ◌++◌, ⊤}
+use Rattle.std.specs.Prelude.{◌≡◌, ℕ, false, List, [], ◌∷◌, ◌++◌, ⊤}
 use Rattle.thr_text.specs.declared.block.Block.{Block}
-use Rattle.thr_text.specs.Blocks.{Line, blocks_below, shape_of_line}
+use Rattle.thr_text.specs.Blocks.{Line, blocks_below, shape_of_line, mentions_this, leaves_a_try, is_uncaught}
 use Rattle.thr_blocks.specs.Levels.{line_misfits}
 
 -- The blocks that are open below these lines.
@@ -32,3 +32,11 @@ pub record IsLeftOpen (end : ℕ) (bs : List Block) (lines : List Line) (f : ℕ
   pub outer : List Block
   pub open_ : open_below bs lines ≡ innermost ∷ outer
   pub at : f ≡ (end, 8)
+
+-- No `return` stands between a try and its `endtry`, and `reraise` and `this` stand in bodies that catch.
+abbrev pub KeepExceptions : List Block → List Line → Type 0
+KeepExceptions bs [] = ⊤
+KeepExceptions bs (l ∷ ls) =
+    (leaves_a_try bs (shape_of_line l.1) ≡ false)
+    × (is_uncaught bs (shape_of_line l.1) (mentions_this l.1) ≡ false)
+    × KeepExceptions (blocks_below bs (shape_of_line l.1)) ls

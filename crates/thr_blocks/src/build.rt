@@ -354,8 +354,3 @@ pub fn lines_determine_items()
 pub fn lines_of_trees_nest()
     ensures { (all : List Item) → list_all item_nests all ≡ true → Nest [] (map form_shape (joined (map item_lines all))) }
 {}
-
-/// Lines in which the second pass finds no fault nest.
-pub fn faultless_lines_nest()
-    ensures { (end : ℕ) (lines : List Line) → block_faults end [] lines ≡ [] → Nest [] (map (λ l. shape_of_line l.1) lines) }
-{}

@@ -2,3 +2,4 @@ pub mod Texts
 pub mod Words
 pub mod Numbers
 pub mod Lines
+pub mod Spelled

@@ -7,5 +7,6 @@ pub mod expressions;
 pub mod kinds;
 pub mod mutexes;
 pub mod pipes;
+pub mod spelled;
 pub mod statements;
 pub mod threads;

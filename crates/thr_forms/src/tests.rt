@@ -268,9 +268,9 @@ const LINES: &[u8] = b"\
 4 a b c d e f g h i j k l m n o p q r s t u v w x y";
 
 /// Of a text without a fault the line after the last, 0 and how many lines are kept; else the line of its first fault, the
-/// number of the fault and 0. Want of memory, or a text of more than 1,000 bytes, is all zeros.
+/// number of the fault and 0. Want of memory, or a text of more than 1,048,576 bytes, is all zeros.
 fn answer(alloc: Global, text: &[u8]) -> (u32, u8, usize) {
-    if text.len() > 1000 {
+    if text.len() > 1_048_576 {
         return (0, 0, 0);
     }
     match read_lines(alloc, text) {
