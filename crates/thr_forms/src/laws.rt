@@ -1,9 +1,10 @@
 //! Laws of lines by themselves: that a line has one form at most, and which line has the first fault.
 
-ghost use Rattle.std.specs.Prelude.{◌≡◌, ◌⊎◌, ℕ, Some, List, false};
+ghost use Rattle.std.specs.Prelude.{◌≡◌, ◌⊎◌, ℕ, Some, List, [], false};
 ghost use Rattle.thr_text.specs.declared.word.Word.{Word};
 ghost use Rattle.thr_text.specs.declared.head.Head.{Head};
-ghost use Rattle.thr_text.specs.Faults.{first_of};
+ghost use Rattle.thr_text.specs.Lexing.{words_of, line_text};
+ghost use Rattle.thr_text.specs.Faults.{first_of, word_faults};
 ghost use Rattle.thr_text.specs.Grammar.{HasForm};
 ghost use Rattle.thr_text.specs.Reading.{scan_faults};
 ghost use Rattle.thr_forms.specs.Filling.{Part, IsForm};
@@ -23,4 +24,9 @@ pub fn lines_have_one_form()
     ensures has_one { (words : List Word) → HasForm words → (head : Head) × (parts : List Part) × IsForm words head parts }
     ensures is_a_form { (words : List Word) (head : Head) (parts : List Part) → IsForm words head parts → HasForm words }
     ensures no_other { (words : List Word) (head other : Head) (parts more : List Part) → IsForm words head parts → IsForm words other more → (head ≡ other) × (parts ≡ more) }
+{}
+
+/// The canonical line of a line without faults is read as the same form (docs/script.md, "The canonical text").
+pub fn canonical_lines_have_the_same_form()
+    ensures { (line : List ℕ) (head : Head) (parts : List Part) → word_faults line ≡ [] → IsForm (words_of line) head parts → IsForm (words_of (line_text (words_of line))) head parts }
 {}
