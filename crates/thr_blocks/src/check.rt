@@ -1,7 +1,6 @@
 //! The second pass.
 
-ghost use Rattle.std.specs.Prelude.{◌≡◌, [], ◌∷◌, codes, IfOk, OnOk, IfErr};
-ghost use Rattle.thr_text.specs.Slots.{is_one_of};
+ghost use Rattle.std.specs.Prelude.{◌≡◌, [], IfOk, OnOk, IfErr};
 ghost use Rattle.thr_text.specs.Blocks.{misfits, blocks_below, shape_of_line, mentions_this, at_line, block_faults};
 ghost use Rattle.thr_text.specs.Refusals.{IsFirst};
 ghost use Rattle.thr_blocks.specs.Levels.{line_misfits};
@@ -12,22 +11,13 @@ use std::alloc::Global;
 use thr_lexer::line::Line;
 use thr_text::block::Shape;
 use thr_text::fault::{ParseFault, Place};
+use thr_text::operands::is_one_of;
 use thr_text::word::Word;
-
-fn is_this(word: &Word) -> bool
-    ensures { result ≡ is_one_of (codes "this" ∷ []) word.now }
-{
-    match word {
-        Word::Num(_) => false,
-        Word::Name(text) => text.as_slice() == b"this".as_slice(),
-        Word::Mark(text) => text.as_slice() == b"this".as_slice(),
-    }
-}
 
 fn mentions_this(words: &[Word]) -> bool
     ensures { result ≡ mentions_this words.now }
 {
-    words.iter().any(is_this)
+    words.iter().any(|word| is_one_of(&[b"this"], word))
 }
 
 fn shape(line: &Line) -> Shape

@@ -1,6 +1,6 @@
 //! The names of a script with what they are the names of.
 
-ghost use Rattle.std.specs.Prelude.{◌≡◌, ◌≤◌, ◌<◌, [], true, is_some, length, map, position, OnOk, IfOk, IfErr, IfSome};
+ghost use Rattle.std.specs.Prelude.{◌≡◌, ◌≤◌, ◌<◌, [], true, Some, is_some, length, map, position, OnOk, IfOk, IfErr, IfSome};
 ghost use Rattle.std.specs.List.{list_all};
 ghost use Rattle.std.specs.Map.{keys_of};
 ghost use Rattle.std.specs.Str.{bytes_eq};
@@ -8,6 +8,7 @@ ghost use Rattle.thr_syntax.specs.Spelling.{name_at};
 ghost use Rattle.thr_text.specs.declared.fault.ParseFault.TheVariants as ParseFault;
 ghost use Rattle.thr_text.specs.Tables.{kind_in, is_declared, builtin_entry, declared_in};
 ghost use Rattle.thr_text.specs.NameFaults.{words_in};
+ghost use Rattle.thr_naming.specs.Ids.{id_at};
 ghost use Rattle.thr_naming.specs.Judging.{with_entry, noted, table_of, is_short};
 
 use crate::brought::declared;
@@ -76,6 +77,7 @@ impl Table {
     /// The place of a name that is in the table, the first at 0. Behind 65,536 names there are no places, but no script that is
     /// accepted has so many.
     pub fn id(&self, name: &Name) -> Option<NameId>
+        ensures place { result ≡ id_at (position (bytes_eq name.now) (keys_of self.now)) }
         ensures name { IfSome result (λ id. name_at (keys_of self.now) id.0 ≡ name.now) }
         ensures found { length self.now ≤ 65536 → is_some result ≡ is_declared self.now name.now }
     {
@@ -115,6 +117,7 @@ fn place_in(kinds: &IndexMap<Name, Object>, name: &Name) -> Option<usize>
 }
 
 fn as_id(place: usize) -> Option<NameId>
+    ensures exact { result ≡ id_at (Some place) }
     ensures value { IfSome result (λ id. id.0 ≡ place) }
     ensures found { place < 65536 → is_some result ≡ true }
 {

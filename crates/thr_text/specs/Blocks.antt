@@ -46,7 +46,7 @@ shape_of head.Exit = IsPlain
 shape_of head.End = Closes
 shape_of (head.Dce c) = IsPlain
 
--- The same of a line of a script, whose names are resolved.
+-- The same of a line of a script, whose names are resolved. The first line has no head; it stands where declarations do.
 unfoldable pub form_shape : Form → Shape
 form_shape form.Header = Declares
 form_shape (form.Interface i) = Declares

@@ -7,6 +7,7 @@ pub mod Grammar
 pub mod Blocks
 pub mod Tables
 pub mod NameFaults
+pub mod Numbers
 pub mod Reading
 pub mod Refusals
 pub mod Journals

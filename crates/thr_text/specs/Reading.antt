@@ -4,6 +4,7 @@ use Rattle.std.specs.Str.Lines.{lines}
 use Rattle.thr_values.specs.Exceptions.{builtin_names}
 use Rattle.thr_syntax.specs.declared.tree.Script.{Script}
 use Rattle.thr_syntax.specs.Canon.{script_words}
+use Rattle.thr_syntax.specs.Lines.{lines_of}
 use Rattle.thr_text.specs.declared.word.Word.{Word}
 use Rattle.thr_text.specs.Lexing.{word_of, words_of, line_text}
 use Rattle.thr_text.specs.Faults.{when, word_faults}
@@ -11,6 +12,7 @@ use Rattle.thr_text.specs.Slots.{form_fault, is_header}
 use Rattle.thr_text.specs.Blocks.{Line, at_line, block_faults}
 use Rattle.thr_text.specs.Tables.{declarations}
 use Rattle.thr_text.specs.NameFaults.{name_faults}
+use Rattle.thr_text.specs.Numbers.{HaveNumbers}
 
 -- ---- the first pass: each line by itself
 
@@ -86,10 +88,11 @@ abbrev pub HaveForms : List (List Word) → Type 0
 HaveForms [] = Unit {0}
 HaveForms (l ∷ ls) = (form_fault l ≡ None) × (word_faults (line_text l) ≡ []) × HaveForms ls
 
--- A script that keeps the rules: its names are the built-in ones and then the declared ones in their order, and its own lines
--- have no fault.
+-- A script that keeps the rules: its names are the built-in ones and then the declared ones in their order, its numbers have
+-- 64 bits, and its own lines have no fault.
 pub record Formed (s : Script) : Type 0 where
   pub names : s.names ≡ builtin_names ++ map (λ e. e.0) (declarations (own_lines s))
+  pub numbers : HaveNumbers (lines_of s)
   pub forms : HaveForms (own_lines s)
   pub blocks : block_faults (length (own_lines s) + 2) [] (numbered_lines 2 (own_lines s)) ≡ []
   pub limits : name_faults (length (own_lines s) + 2) (numbered_lines 2 (own_lines s)) ≡ []
