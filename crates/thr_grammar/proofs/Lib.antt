@@ -1,7 +1,2 @@
-pub mod WidthLaws
-pub mod DigitLaws
-pub mod DepthLaws
-pub mod CountLaws
-pub mod ShortLaws
 pub mod SpacedLaws
 pub mod TreeTexts

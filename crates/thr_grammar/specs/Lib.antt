@@ -1,5 +1,1 @@
-pub mod Limits
-pub mod Capped
-pub mod Widths
-pub mod Walks
 pub mod Printing

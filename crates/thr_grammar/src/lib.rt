@@ -1,10 +1,6 @@
-//! Scripts and their texts: the canonical text, and the limits.
+//! Scripts and their texts.
 #![tactic(auto)]
 
-#[cfg(test)]
-mod limit_tests;
-pub mod limits;
 pub mod print;
 #[cfg(test)]
-mod print_tests;
-mod width;
+mod tests;

@@ -1,7 +1,0 @@
-use Rattle.std.proofs.Common.{◌≡◌, ◌≤◌, length, take}
-use Rattle.std.specs.List.{filter}
-use Rattle.thr_grammar.specs.Limits.{has_name}
-use Rattle.thr_grammar.proofs.limits.name_count.Given as goal
-
-abbrev pub invariant-loop-item : goal.invariant-loop-item
-invariant-loop-item l = (l.count ≡ length (filter has_name (take l.item-index l.items))) × (l.count ≤ l.item-index)

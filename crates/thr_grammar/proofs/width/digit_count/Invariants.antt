@@ -1,9 +1,0 @@
-use Rattle.std.proofs.Common.{◌≡◌, ◌+◌, ◌≤◌, length}
-use Rattle.std.specs.Fmt.{decimal}
-use Rattle.thr_grammar.proofs.width.digit_count.Given as goal
-
-abbrev pub invariant-loop-left : goal.invariant-loop-left
-invariant-loop-left l = (l.count + length (decimal l.left) ≡ 1 + length (decimal l.fn.n)) × (length (decimal l.fn.n) ≤ 20)
-
-abbrev pub decreases-loop-left : goal.decreases-loop-left
-decreases-loop-left l = l.left

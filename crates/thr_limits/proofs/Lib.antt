@@ -1,0 +1,5 @@
+pub mod WidthLaws
+pub mod DigitLaws
+pub mod DepthLaws
+pub mod CountLaws
+pub mod ShortLaws

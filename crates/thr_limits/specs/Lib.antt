@@ -1,0 +1,4 @@
+pub mod Limits
+pub mod Capped
+pub mod Widths
+pub mod Walks

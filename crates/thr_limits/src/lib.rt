@@ -1,0 +1,7 @@
+//! The limits of a script.
+#![tactic(auto)]
+
+pub mod limits;
+#[cfg(test)]
+mod tests;
+mod width;
