@@ -1,4 +1,4 @@
-use Rattle.thr_resolving.proofs.AgainNames.{id_found}
+use Rattle.thr_resolving.proofs.AgainPieces.{expression_read}
 use Rattle.thr_resolving.proofs.laws.spelled_lines_are_resolved_again.Goals as goal
 
 pub returns-clause-again : goal.returns-clause-again
