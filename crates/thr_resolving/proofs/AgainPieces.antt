@@ -137,7 +137,7 @@ err_atom scope = made_atom scope (codes "err") expr.Err refl refl (fixed_proper 
 
 -- ---- operators and their operands
 
-signed_parts : (ms ns : List ℤ) → AreSigned (ms ++ ns) → AreSigned ms × AreSigned ns
+pub signed_parts : (ms ns : List ℤ) → AreSigned (ms ++ ns) → AreSigned ms × AreSigned ns
 signed_parts [] ns h = (tt, h)
 signed_parts (m ∷ ms) ns h = let p = signed_parts ms ns h.1 in ((h.0, p.0), p.1)
 

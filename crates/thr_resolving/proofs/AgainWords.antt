@@ -39,7 +39,7 @@ proper_texts (t ∷ ts) h = rw (h.0.same, proper_texts ts h.1) refl
 abbrev pub is_fixed : List ℕ → Bool
 is_fixed text = not (has_number_form text) && (is_something text && list_all is_ink text)
 
-not_true : (b : Bool) → not b ≡ true → b ≡ false
+pub not_true : (b : Bool) → not b ≡ true → b ≡ false
 not_true true e = absurd cc
 not_true false e = refl
 

@@ -1,14 +1,14 @@
-use Rattle.thr_resolving.proofs.AgainPieces.{expression_read}
+use Rattle.thr_resolving.proofs.AgainLines.{again, line_shape, line_of_line, line_texts}
 use Rattle.thr_resolving.proofs.laws.spelled_lines_are_resolved_again.Goals as goal
 
 pub returns-clause-again : goal.returns-clause-again
-returns-clause-again c = ?
+returns-clause-again c = again
 
 pub returns-clause-shape : goal.returns-clause-shape
-returns-clause-shape c = ?
+returns-clause-shape c = line_shape
 
 pub returns-clause-words : goal.returns-clause-words
-returns-clause-words c = ?
+returns-clause-words c = line_of_line
 
 pub returns-clause-texts : goal.returns-clause-texts
-returns-clause-texts c = ?
+returns-clause-texts c = line_texts
