@@ -1,8 +1,6 @@
 -- The words of a spelled line are resolved to that line.
-use Rattle.std.proofs.Common.{◌≡◌, ℕ, ℤ, pos, ◌<◌, ◌≤◌, ◌^◌, Bool, true, false, List, [], ◌∷◌, ◌++◌, map, refl, sym, ap, subst, ◌∙◌, inl, inr, append-nil, Option, Some, None, arith}
-use Rattle.std.specs.Prelude.{◌&&◌, not, nat_lt, FitsSigned}
-use Rattle.std.specs.Int.{w64}
-use Rattle.std.specs.Ordering.{int_cmp, is_lt}
+use Rattle.std.proofs.Common.{◌≡◌, ℕ, ℤ, pos, ◌<◌, ◌≤◌, ◌^◌, true, false, List, [], ◌∷◌, ◌++◌, map, refl, sym, ap, subst, ◌∙◌, inl, inr, append-nil, Option, Some, None, arith}
+use Rattle.std.specs.Prelude.{◌&&◌, not}
 use Rattle.std.specs.Fmt.{signed_decimal}
 use Rattle.std.specs.List.{list_all}
 use Rattle.std.proofs.lemmas.Bool.{cases_Bool}
@@ -24,10 +22,9 @@ use Rattle.thr_text.specs.declared.head.Head.{Head}
 use Rattle.thr_text.specs.declared.head.Head.TheVariants as head
 use Rattle.thr_text.specs.declared.head.Slot.{Slot}
 use Rattle.thr_text.specs.declared.head.Slot.TheVariants as slot
-use Rattle.thr_text.specs.declared.block.Shape.{Shape}
 use Rattle.thr_text.specs.Names.{has_name_form}
 use Rattle.thr_text.specs.Lexing.{is_something, is_ink, has_number_form, word_of, word_text, AreOfLine}
-use Rattle.thr_text.specs.Heads.{head_word, head_of}
+use Rattle.thr_text.specs.Heads.{head_word}
 use Rattle.thr_text.specs.Slots.{call_slots, slots_of, is_a_name, misplaced, text_of, head_at, head_of_line, fault_after, form_fault}
 use Rattle.thr_text.specs.Tables.{rest_of}
 use Rattle.thr_text.specs.Blocks.{form_shape, shape_at, shape_of_line}
@@ -128,7 +125,8 @@ line_faultless : (scope : Scope) (f : Form) → IsOwn f → form_fault (map word
 line_faultless scope f own fault =
     sym (ap (λ (o : Option Head). fault_after o (slot_words scope f)) (head_found (form_head f))) ∙ sym (ap form_fault (line_words scope f own)) ∙ fault
 
-line_read : (scope : Scope) (f : Form) → IsScope scope → IsOwn f → AreSigned (form_numbers f) → form_fault (map word_of (form_words scope f)) ≡ None → AreReadIn scope (slots_of (form_head f)) (form_values f)
+line_read : (scope : Scope) (f : Form) → IsScope scope → IsOwn f → AreSigned (form_numbers f) → form_fault (map word_of (form_words scope f)) ≡ None
+    → AreReadIn scope (slots_of (form_head f)) (form_values f)
 line_read scope f s own signed fault =
     values_read scope s (slots_of (form_head f)) (form_values f) (values_fit f own) (head_receiver_last (form_head f)) (subst AreSigned (numbers_same f) signed) (line_faultless scope f own fault)
 
@@ -153,10 +151,12 @@ pipe_within n text v w d e range =
     let b : n ≤ 4096 = within_below n 4096 r in
     omega (arith, b)
 
-pipe_named : (scope : Scope) (id : NameId) (k : kinds.Object) (slots : List Slot) (ws : List Word) → IsScope scope → misplaced (slot.Declared k ∷ slots) (word_of (name_of scope id) ∷ ws) ≡ None → word_of (name_of scope id) ≡ Name (name_of scope id)
+pipe_named : (scope : Scope) (id : NameId) (k : kinds.Object) (slots : List Slot) (ws : List Word) → IsScope scope
+    → misplaced (slot.Declared k ∷ slots) (word_of (name_of scope id) ∷ ws) ≡ None → word_of (name_of scope id) ≡ Name (name_of scope id)
 pipe_named scope id k slots ws s fault = name_word (name_of scope id) (id_found is_a_name refl scope id s (one_stands (slot.Declared k) slots (word_of (name_of scope id)) ws fault).0).0
 
-sizes_fit : (scope : Scope) (f : Form) → IsScope scope → AreSigned (form_numbers f) → misplaced (slots_of (form_head f)) (slot_words scope f) ≡ None → is_out_of_range (Some (form_head f)) (slot_words scope f) ≡ false → SizesFit f
+sizes_fit : (scope : Scope) (f : Form) → IsScope scope → AreSigned (form_numbers f) → misplaced (slots_of (form_head f)) (slot_words scope f) ≡ None
+    → is_out_of_range (Some (form_head f)) (slot_words scope f) ≡ false → SizesFit f
 unfolding form_head form_values slots_of words_in_slots
 sizes_fit scope (form.Limit n) s signed fault range = limit_within n (word_of (signed_decimal (pos n))) (number_word (pos n) signed.0) range
 sizes_fit scope (form.Pipe id n) s signed fault range =
@@ -172,10 +172,10 @@ line_sizes scope f s own signed fault range =
     let r : is_out_of_range (Some (form_head f)) (slot_words scope f) ≡ false = rw (line_head scope f own, line_rest scope f own) at range in
     sizes_fit scope f s signed (line_faultless scope f own fault) r
 
-pub again : (scope : Scope) (f : Form) → IsScope scope → IsOwn f → AreSigned (form_numbers f) → form_fault (map word_of (form_words scope f)) ≡ None
+pub line_resolved : (scope : Scope) (f : Form) → IsScope scope → IsOwn f → AreSigned (form_numbers f) → form_fault (map word_of (form_words scope f)) ≡ None
     → is_out_of_range (head_of_line (map word_of (form_words scope f))) (rest_of (map word_of (form_words scope f))) ≡ false → resolved scope (map word_of (form_words scope f)) ≡ f
 unfolding resolved
-again scope f s own signed fault range =
+line_resolved scope f s own signed fault range =
     ap (λ (o : Option Head). resolved_after scope o (rest_of (map word_of (form_words scope f)))) (line_head scope f own)
     ∙ ap (λ (ws : List Word). form_of (form_head f) (values_in scope (slots_of (form_head f)) (pieces_of scope ws))) (line_rest scope f own)
     ∙ ap (form_of (form_head f)) (line_read scope f s own signed fault).0
@@ -184,8 +184,10 @@ again scope f s own signed fault range =
 pub line_shape : (scope : Scope) (f : Form) → IsOwn f → form_shape f ≡ shape_of_line (map word_of (form_words scope f))
 line_shape scope f own = shape_same f own ∙ sym (ap shape_at (line_head scope f own))
 
-pub line_of_line : (scope : Scope) (f : Form) → IsScope scope → IsOwn f → AreSigned (form_numbers f) → form_fault (map word_of (form_words scope f)) ≡ None → AreOfLine (map word_of (form_words scope f))
+pub line_of_line : (scope : Scope) (f : Form) → IsScope scope → IsOwn f → AreSigned (form_numbers f) → form_fault (map word_of (form_words scope f)) ≡ None
+    → AreOfLine (map word_of (form_words scope f))
 line_of_line scope f s own signed fault = proper_words (form_words scope f) (line_proper scope f s own signed fault)
 
-pub line_texts : (scope : Scope) (f : Form) → IsScope scope → IsOwn f → AreSigned (form_numbers f) → form_fault (map word_of (form_words scope f)) ≡ None → map word_text (map word_of (form_words scope f)) ≡ form_words scope f
+pub line_texts : (scope : Scope) (f : Form) → IsScope scope → IsOwn f → AreSigned (form_numbers f) → form_fault (map word_of (form_words scope f)) ≡ None
+    → map word_text (map word_of (form_words scope f)) ≡ form_words scope f
 line_texts scope f s own signed fault = proper_texts (form_words scope f) (line_proper scope f s own signed fault)

@@ -1,6 +1,6 @@
 -- A spelled name is resolved to what it names.
-use Rattle.std.proofs.Common.{◌≡◌, ℕ, zero, suc, ◌<◌, ◌≤◌, Bool, true, false, List, [], ◌∷◌, length, refl, sym, ap, subst, ◌∙◌, inl, inr, Option, Some, None, arith}
-use Rattle.std.specs.Prelude.{◌⊎◌, ◌&&◌, ◌||◌, nat_lt, position, unwrap_or, codes, if◌then◌else◌}
+use Rattle.std.proofs.Common.{◌≡◌, ℕ, zero, suc, ◌<◌, Bool, true, false, List, [], ◌∷◌, length, refl, ap, subst, ◌∙◌, inl, inr, Option, arith}
+use Rattle.std.specs.Prelude.{◌⊎◌, ◌||◌, nat_lt, unwrap_or}
 use Rattle.std.specs.List.{list_all, list_any}
 use Rattle.std.specs.Str.{bytes_eq}
 use Rattle.std.proofs.lemmas.Bool.{cases_Bool, or_parts}
@@ -9,21 +9,17 @@ use Rattle.std.proofs.lemmas.Slice.Eq.{bytes_eq-Decides}
 use Rattle.thr_values.specs.declared.number.NameId.{NameId}
 use Rattle.thr_syntax.specs.declared.expr.Var.{Var}
 use Rattle.thr_syntax.specs.declared.expr.Var.TheVariants.{Local, Shared}
-use Rattle.thr_syntax.specs.declared.expr.ExcRef.{ExcRef}
-use Rattle.thr_syntax.specs.declared.expr.ExcRef.TheVariants.{Named, This}
-use Rattle.thr_syntax.specs.Spelling.{Scope, name_at, name_of, local_of, variable_of, exception_of}
+use Rattle.thr_syntax.specs.Spelling.{Scope, name_at, name_of, local_of, variable_of}
 use Rattle.thr_text.specs.declared.word.Word.{Word}
-use Rattle.thr_text.specs.declared.word.Word.TheVariants.{Num, Name, Mark}
-use Rattle.thr_text.specs.Names.{has_name_form, reserved_words, is_reserved, is_name}
-use Rattle.thr_text.specs.Lexing.{has_number_form, word_of}
-use Rattle.thr_text.specs.Slots.{is_one_of, is_a_name}
+use Rattle.thr_text.specs.declared.word.Word.TheVariants.{Name, Mark}
+use Rattle.thr_text.specs.Names.{is_name}
+use Rattle.thr_text.specs.Lexing.{word_of}
 use Rattle.thr_text.specs.Tables.{is_among}
-use Rattle.thr_text.proofs.WordTables.{no_name}
 use Rattle.thr_naming.specs.Ids.{id_at}
 use Rattle.thr_lexer.proofs.Canon.{and_both}
-use Rattle.thr_resolving.specs.Resolving.{no_id, place_at, id_in, place_in, is_local, variable_in, exception_in}
-use Rattle.thr_resolving.specs.Scopes.{AreDistinct, IsScope}
-use Rattle.thr_resolving.proofs.AgainWords.{IsProper, fixed_proper, name_word, name_proper, nothing_word}
+use Rattle.thr_resolving.specs.Resolving.{no_id, place_at, id_in, place_in, is_local, variable_in}
+use Rattle.thr_resolving.specs.Scopes.{IsScope}
+use Rattle.thr_resolving.proofs.AgainWords.{IsProper, name_word, name_proper, nothing_word}
 
 -- The name at a place among these.
 pub record IsKnown (names : List (List ℕ)) (place : ℕ) : Type 0 where
@@ -39,7 +35,8 @@ known_or_none (n ∷ names) (suc place) e = elim (known_or_none names place (and
 ]
 
 -- A word that passes a test, which the word of no text fails, is that of a name.
-pub known : (test : Word → Bool) → test (Mark []) ≡ false → (names : List (List ℕ)) (place : ℕ) → list_all is_name names ≡ true → test (word_of (name_at names place)) ≡ true → IsKnown names place
+pub known : (test : Word → Bool) → test (Mark []) ≡ false → (names : List (List ℕ)) (place : ℕ) → list_all is_name names ≡ true
+    → test (word_of (name_at names place)) ≡ true → IsKnown names place
 known test fails names place e passes = elim (known_or_none names place e) [
   | inl k ↦ k
   | inr none ↦ absurd (let p : test (Mark []) ≡ true = subst (λ (w : Word). test w ≡ true) (ap word_of none ∙ nothing_word) passes in cc)
@@ -108,12 +105,14 @@ variable_again test fails scope (Shared id) s passes =
     let k = known test fails scope.names id.0 s.names passes in
     record { name = k.name; again = shared_again scope id s k }
 
-pub place_found : (test : Word → Bool) → test (Mark []) ≡ false → (scope : Scope) (place : ℕ) → IsScope scope → test (word_of (local_of scope place)) ≡ true → (is_name (local_of scope place) ≡ true) × (place_in scope (word_of (local_of scope place)) ≡ place)
+pub place_found : (test : Word → Bool) → test (Mark []) ≡ false → (scope : Scope) (place : ℕ) → IsScope scope → test (word_of (local_of scope place)) ≡ true
+    → (is_name (local_of scope place) ≡ true) × (place_in scope (word_of (local_of scope place)) ≡ place)
 place_found test fails scope place s passes =
     let k = known test fails scope.locals place s.locals passes in
     (k.name, place_again scope place s k)
 
-pub id_found : (test : Word → Bool) → test (Mark []) ≡ false → (scope : Scope) (id : NameId) → IsScope scope → test (word_of (name_of scope id)) ≡ true → (is_name (name_of scope id) ≡ true) × (id_in scope (word_of (name_of scope id)) ≡ id)
+pub id_found : (test : Word → Bool) → test (Mark []) ≡ false → (scope : Scope) (id : NameId) → IsScope scope → test (word_of (name_of scope id)) ≡ true
+    → (is_name (name_of scope id) ≡ true) × (id_in scope (word_of (name_of scope id)) ≡ id)
 id_found test fails scope id s passes =
     let k = known test fails scope.names id.0 s.names passes in
     (k.name, id_again scope id s k)

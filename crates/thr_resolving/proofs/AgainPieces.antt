@@ -1,6 +1,6 @@
 -- The words of a spelled expression are resolved to that expression.
-use Rattle.std.proofs.Common.{◌≡◌, ℕ, ℤ, Bool, true, false, List, [], ◌∷◌, ◌++◌, map, refl, sym, ap, subst, ◌∙◌, inl, inr, append_assoc, Option, Some, None}
-use Rattle.std.specs.Prelude.{◌⊎◌, ◌||◌, codes, if◌then◌else◌, FitsSigned}
+use Rattle.std.proofs.Common.{◌≡◌, ℕ, ℤ, true, false, List, [], ◌∷◌, ◌++◌, map, refl, sym, ap, subst, ◌∙◌, inl, inr, append_assoc, Some, None}
+use Rattle.std.specs.Prelude.{codes, FitsSigned}
 use Rattle.std.specs.Int.{w64}
 use Rattle.std.specs.Fmt.{signed_decimal}
 use Rattle.std.specs.List.{list_any}
@@ -17,14 +17,14 @@ use Rattle.thr_syntax.specs.Spelling.{Scope, name_of, variable_of, exception_of,
 use Rattle.thr_syntax.proofs.FoldLaws.{each_expr-Num, each_expr-Var, each_expr-Me, each_expr-Err, each_expr-Two, each_expr-Not, each_expr-GetStatus, each_expr-Matches}
 use Rattle.thr_syntax.proofs.TreeInduction.{expr_induction}
 use Rattle.thr_text.specs.declared.word.Word.{Word}
-use Rattle.thr_text.specs.declared.word.Word.TheVariants.{Num, Name, Mark}
+use Rattle.thr_text.specs.declared.word.Word.TheVariants.{Name}
 use Rattle.thr_text.specs.declared.head.Slot.{Slot}
 use Rattle.thr_text.specs.declared.head.Slot.TheVariants as slot
 use Rattle.thr_text.specs.Names.{has_name_form, reserved_words, is_reserved, is_name}
 use Rattle.thr_text.specs.Lexing.{has_number_form, magnitude, word_of}
-use Rattle.thr_text.specs.Slots.{is_one_of, is_a_name, is_a_number, binary_words, can_stand, operands_of, slots_behind, misplaced}
+use Rattle.thr_text.specs.Slots.{is_one_of, binary_words, can_stand, operands_of, slots_behind, misplaced}
 use Rattle.thr_text.specs.Numbers.{AreSigned, numbers_step, expr_numbers}
-use Rattle.thr_text.proofs.WordTables.{chosen, are_within, apart, no_name, no_number, no_more}
+use Rattle.thr_text.proofs.WordTables.{chosen, apart, no_name, no_more}
 use Rattle.thr_text.proofs.FormLaws.{binary_opens, not_opens, status_opens, match_opens}
 use Rattle.thr_resolving.specs.Resolving.{Piece, Raw, Made, id_in, variable_in, exception_in, operator_in, atom_in, expression_in, with_word, pieces_of}
 use Rattle.thr_resolving.specs.Scopes.{IsScope}
@@ -33,7 +33,8 @@ use Rattle.thr_resolving.proofs.AgainNames.{id_found, variable_again}
 
 -- ---- one word at its place
 
-pub one_stands : (s : Slot) (slots : List Slot) (w : Word) (ws : List Word) → misplaced (s ∷ slots) (w ∷ ws) ≡ None → (can_stand s w ≡ true) × (misplaced (slots_behind s w ++ slots) ws ≡ None)
+pub one_stands : (s : Slot) (slots : List Slot) (w : Word) (ws : List Word) → misplaced (s ∷ slots) (w ∷ ws) ≡ None
+    → (can_stand s w ≡ true) × (misplaced (slots_behind s w ++ slots) ws ≡ None)
 unfolding misplaced
 one_stands s slots w ws e =
     elim (chosen (can_stand s w) (misplaced (slots_behind s w ++ slots) ws) (Some 6) None e) [
@@ -92,11 +93,11 @@ none_opens : (w : Word) → is_one_of operator_words w ≡ false → operands_of
 none_opens w e =
     rw (no_more binary_words operator_words refl w e, no_more not_words operator_words refl w e, no_more status_words operator_words refl w e, no_more match_words operator_words refl w e) refl
 
-atom_read : (scope : Scope) (text : List ℕ) (numbers : List ℤ) (e : Expr) → (can_stand slot.Expression (word_of text) ≡ true → AreSigned numbers → IsAtom scope text e) → IsRead scope (text ∷ []) numbers e
+atom_read : (scope : Scope) (text : List ℕ) (numbers : List ℤ) (e : Expr) → (can_stand slot.Expression (word_of text) ≡ true → AreSigned numbers → IsAtom scope text e)
+    → IsRead scope (text ∷ []) numbers e
 atom_read scope text numbers e is slots rest fault signed =
     let s = one_stands slot.Expression slots (word_of text) rest fault in
-    let a = is s.0 signed in
-    (
+    let a = is s.0 signed in (
       record { piece = Raw (word_of text); first = λ r. stays_raw scope (word_of text) r a.none; same = a.same; proper = (a.proper, tt) },
       subst (λ (os : List Slot). misplaced (os ++ slots) rest ≡ None) a.opens s.1,
     )
@@ -165,7 +166,8 @@ an_operator op.AtLeast = record { binary = refl; again = refl; fixed = refl }
 an_operator op.And = record { binary = refl; again = refl; fixed = refl }
 an_operator op.Or = record { binary = refl; again = refl; fixed = refl }
 
-takes_two : (scope : Scope) (w : Word) (p q : Piece) (ps : List Piece) → is_one_of binary_words w ≡ true → with_word scope w (p ∷ q ∷ ps) ≡ Made (expr.Two (operator_in w) (expression_in scope (Some p)) (expression_in scope (Some q))) ∷ ps
+takes_two : (scope : Scope) (w : Word) (p q : Piece) (ps : List Piece) → is_one_of binary_words w ≡ true
+    → with_word scope w (p ∷ q ∷ ps) ≡ Made (expr.Two (operator_in w) (expression_in scope (Some p)) (expression_in scope (Some q))) ∷ ps
 unfolding with_word
 takes_two scope w p q ps e = rw e refl
 
@@ -182,17 +184,17 @@ two_pieces scope w ts us a b binary l r rest =
     ap (with_word scope w) (ap (pieces_of scope) (both_words ts us rest) ∙ l.first (map word_of us ++ rest) ∙ ap (λ (x : List Piece). l.piece ∷ x) (r.first rest))
     ∙ takes_two scope w l.piece r.piece (pieces_of scope rest) binary
 
-two_read : (scope : Scope) (o : Op) (ts us : List (List ℕ)) (ms ns : List ℤ) (a b : Expr) → IsRead scope ts ms a → IsRead scope us ns b → IsRead scope (operator_word o ∷ (ts ++ us)) (ms ++ ns) (expr.Two o a b)
+two_read : (scope : Scope) (o : Op) (ts us : List (List ℕ)) (ms ns : List ℤ) (a b : Expr) → IsRead scope ts ms a → IsRead scope us ns b
+    → IsRead scope (operator_word o ∷ (ts ++ us)) (ms ++ ns) (expr.Two o a b)
 two_read scope o ts us ms ns a b left right slots rest fault signed =
     let w = word_of (operator_word o) in
     let h = an_operator o in
     let n = signed_parts ms ns signed in
     let f : misplaced (slot.Expression ∷ slot.Expression ∷ slots) (map word_of ts ++ (map word_of us ++ rest)) ≡ None =
-        subst (λ (x : List Word). misplaced (slot.Expression ∷ slot.Expression ∷ slots) x ≡ None) (both_words ts us rest)
-        (opened w (slot.Expression ∷ slot.Expression ∷ []) slots (map word_of (ts ++ us) ++ rest) (binary_opens w h.binary) fault) in
+    subst (λ (x : List Word). misplaced (slot.Expression ∷ slot.Expression ∷ slots) x ≡ None) (both_words ts us rest)
+    (opened w (slot.Expression ∷ slot.Expression ∷ []) slots (map word_of (ts ++ us) ++ rest) (binary_opens w h.binary) fault) in
     let l = left (slot.Expression ∷ slots) (map word_of us ++ rest) f n.0 in
-    let r = right slots rest l.1 n.1 in
-    (
+    let r = right slots rest l.1 n.1 in (
       record {
         piece = Made (expr.Two (operator_in w) (expression_in scope (Some l.0.piece)) (expression_in scope (Some r.0.piece)));
         first = two_pieces scope w ts us a b h.binary l.0 r.0;
@@ -222,8 +224,7 @@ not_fixed = refl
 not_read : (scope : Scope) (ts : List (List ℕ)) (ms : List ℤ) (a : Expr) → IsRead scope ts ms a → IsRead scope (codes "not" ∷ ts) ms (expr.Not a)
 not_read scope ts ms a more slots rest fault signed =
     let w = word_of (codes "not") in
-    let l = more slots rest (opened w (slot.Expression ∷ []) slots (map word_of ts ++ rest) (not_opens w is_not) fault) signed in
-    (
+    let l = more slots rest (opened w (slot.Expression ∷ []) slots (map word_of ts ++ rest) (not_opens w is_not) fault) signed in (
       record {
         piece = Made (expr.Not (expression_in scope (Some l.0.piece)));
         first = one_piece scope w ts a is_not l.0;
@@ -257,7 +258,8 @@ an_exception scope (Named id) s can =
     let t = name_of scope id in
     record { none = name_no_operator t k.0; again = named_exception scope (word_of t) t id (name_word t k.0) k.0 k.1; proper = name_proper t k.0 }
 
-exception_stands : (scope : Scope) (x : ExcRef) (slots : List Slot) (ws : List Word) → IsScope scope → misplaced (slot.Exception ∷ slots) (word_of (exception_of scope x) ∷ ws) ≡ None → IsException scope x × (misplaced slots ws ≡ None)
+exception_stands : (scope : Scope) (x : ExcRef) (slots : List Slot) (ws : List Word) → IsScope scope
+    → misplaced (slot.Exception ∷ slots) (word_of (exception_of scope x) ∷ ws) ≡ None → IsException scope x × (misplaced slots ws ≡ None)
 exception_stands scope x slots ws s e =
     let p = one_stands slot.Exception slots (word_of (exception_of scope x)) ws e in
     (an_exception scope x s p.0, p.1)
@@ -270,7 +272,8 @@ asks_status : (scope : Scope) (w x : Word) (ps : List Piece) → is_one_of statu
 unfolding with_word
 asks_status scope w x ps e = rw (apart status_words binary_words refl w e, apart status_words not_words refl w e, e) refl
 
-status_pieces : (scope : Scope) (w x : Word) (rest : List Word) → is_one_of status_words w ≡ true → is_one_of operator_words x ≡ false → pieces_of scope (w ∷ x ∷ rest) ≡ Made (expr.GetStatus (exception_in scope x)) ∷ pieces_of scope rest
+status_pieces : (scope : Scope) (w x : Word) (rest : List Word) → is_one_of status_words w ≡ true → is_one_of operator_words x ≡ false
+    → pieces_of scope (w ∷ x ∷ rest) ≡ Made (expr.GetStatus (exception_in scope x)) ∷ pieces_of scope rest
 unfolding pieces_of
 status_pieces scope w x rest is none = ap (with_word scope w) (stays_raw scope x rest none) ∙ asks_status scope w x (pieces_of scope rest) is
 
@@ -282,8 +285,7 @@ status_read : (scope : Scope) (x : ExcRef) → IsScope scope → IsRead scope (c
 status_read scope x s slots rest fault signed =
     let w = word_of (codes "exc_get_status") in
     let v = word_of (exception_of scope x) in
-    let h = exception_stands scope x slots rest s (opened w (slot.Exception ∷ []) slots (v ∷ rest) (status_opens w is_status) fault) in
-    (
+    let h = exception_stands scope x slots rest s (opened w (slot.Exception ∷ []) slots (v ∷ rest) (status_opens w is_status) fault) in (
       record {
         piece = Made (expr.GetStatus (exception_in scope v));
         first = λ r. status_pieces scope w v r is_status h.0.none;
@@ -297,7 +299,8 @@ is_match : is_one_of match_words (word_of (codes "exc_matches")) ≡ true
 unfolding word_of has_number_form has_name_form
 is_match = refl
 
-asks_match : (scope : Scope) (w x y : Word) (ps : List Piece) → is_one_of match_words w ≡ true → with_word scope w (Raw x ∷ Raw y ∷ ps) ≡ Made (expr.Matches (exception_in scope x) (exception_in scope y)) ∷ ps
+asks_match : (scope : Scope) (w x y : Word) (ps : List Piece) → is_one_of match_words w ≡ true
+    → with_word scope w (Raw x ∷ Raw y ∷ ps) ≡ Made (expr.Matches (exception_in scope x) (exception_in scope y)) ∷ ps
 unfolding with_word
 asks_match scope w x y ps e = rw (apart match_words binary_words refl w e, apart match_words not_words refl w e, apart match_words status_words refl w e, e) refl
 
@@ -321,8 +324,7 @@ match_read scope x y s slots rest fault signed =
     let v = word_of (exception_of scope x) in
     let u = word_of (exception_of scope y) in
     let h = exception_stands scope x (slot.Exception ∷ slots) (u ∷ rest) s (opened w (slot.Exception ∷ slot.Exception ∷ []) slots (v ∷ u ∷ rest) (match_opens w is_match) fault) in
-    let k = exception_stands scope y slots rest s h.1 in
-    (
+    let k = exception_stands scope y slots rest s h.1 in (
       record {
         piece = Made (expr.Matches (exception_in scope v) (exception_in scope u));
         first = λ r. match_pieces scope w v u r is_match h.0.none k.0.none;
@@ -337,7 +339,8 @@ match_read scope x y s slots rest fault signed =
 abbrev IsReadAgain : Scope → Expr → Type 0
 IsReadAgain scope e = IsRead scope (expr_words scope e) (expr_numbers e) e
 
-as_spelled : (scope : Scope) (e : Expr) (texts : List (List ℕ)) (numbers : List ℤ) → expr_words scope e ≡ texts → expr_numbers e ≡ numbers → IsRead scope texts numbers e → IsReadAgain scope e
+as_spelled : (scope : Scope) (e : Expr) (texts : List (List ℕ)) (numbers : List ℤ) → expr_words scope e ≡ texts → expr_numbers e ≡ numbers → IsRead scope texts numbers e
+    → IsReadAgain scope e
 as_spelled scope e texts numbers w n h = rw (w, n) h
 
 pub expression_read : (scope : Scope) → IsScope scope → (e : Expr) → IsReadAgain scope e

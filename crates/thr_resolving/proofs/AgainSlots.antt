@@ -1,5 +1,5 @@
 -- The words of the values in the slots of a line are resolved to these values.
-use Rattle.std.proofs.Common.{◌≡◌, ℕ, ℤ, Bool, true, false, List, [], ◌∷◌, ◌++◌, map, refl, sym, ap, subst, ◌∙◌, inl, inr, append_assoc, Option, Some, None}
+use Rattle.std.proofs.Common.{◌≡◌, ℕ, ℤ, Bool, true, false, List, [], ◌∷◌, ◌++◌, map, refl, sym, ap, subst, ◌∙◌, inl, inr, Some, None}
 use Rattle.std.specs.Prelude.{◌⊎◌, ◌&&◌, ◌||◌, not, codes}
 use Rattle.std.specs.Fmt.{signed_decimal}
 use Rattle.std.specs.List.{list_any}
@@ -14,15 +14,14 @@ use Rattle.thr_values.specs.Words.{policy_word, kind_word, inherit_word, cancel_
 use Rattle.thr_syntax.specs.declared.expr.Var.{Var}
 use Rattle.thr_syntax.specs.declared.tree.Interface.{Interface}
 use Rattle.thr_syntax.specs.declared.tree.Interface.TheVariants as interface
-use Rattle.thr_syntax.specs.Spelling.{Scope, name_of, local_of, variable_of, expr_words, interface_word}
+use Rattle.thr_syntax.specs.Spelling.{Scope, name_of, local_of, variable_of, interface_word}
 use Rattle.thr_text.specs.declared.word.Word.{Word}
-use Rattle.thr_text.specs.declared.word.Word.TheVariants.{Num, Name, Mark}
+use Rattle.thr_text.specs.declared.word.Word.TheVariants.{Name, Mark}
 use Rattle.thr_text.specs.declared.object.Object as kinds
 use Rattle.thr_text.specs.declared.object.Object.TheVariants as object
 use Rattle.thr_text.specs.declared.head.Choice.TheVariants as choice
 use Rattle.thr_text.specs.declared.head.Slot.{Slot}
 use Rattle.thr_text.specs.declared.head.Slot.TheVariants as slot
-use Rattle.thr_text.specs.Faults.{first_of}
 use Rattle.thr_text.specs.Names.{has_name_form, reserved_words, is_reserved, is_name}
 use Rattle.thr_text.specs.Lexing.{has_number_form, word_of}
 use Rattle.thr_text.specs.Slots.{is_one_of, is_a_name, absent_word, can_stand, slots_behind, misplaced}
@@ -31,7 +30,7 @@ use Rattle.thr_text.proofs.WordTables.{no_name}
 use Rattle.thr_lexer.proofs.Canon.{and_both}
 use Rattle.thr_resolving.specs.declared.value.Value.{Value}
 use Rattle.thr_resolving.specs.declared.value.Value.TheVariants as value
-use Rattle.thr_resolving.specs.Resolving.{Piece, Raw, id_in, number_in, own_in, after_first, pieces_of, value_in, values_in}
+use Rattle.thr_resolving.specs.Resolving.{Piece, Raw, id_in, number_in, own_in, pieces_of, value_in, values_in}
 use Rattle.thr_resolving.specs.Scopes.{IsScope}
 use Rattle.thr_resolving.proofs.Parts.{words_at, words_in_slots, IsIn, AreIn}
 use Rattle.thr_resolving.proofs.AgainWords.{IsProper, AreProper, proper_append, fixed_proper, name_word, name_proper, number_word, number_proper}
@@ -57,12 +56,12 @@ record IsAlone (scope : Scope) (s : Slot) (v : Value) (text : List ℕ) : Type 0
   same : value_in scope s (Some (Raw (word_of text))) ≡ v
   proper : IsProper text
 
-alone : (scope : Scope) (s : Slot) (v : Value) (text : List ℕ) (slots : List Slot) (rest : List Word) → slots_behind s (word_of text) ≡ [] → (can_stand s (word_of text) ≡ true → IsAlone scope s v text)
+alone : (scope : Scope) (s : Slot) (v : Value) (text : List ℕ) (slots : List Slot) (rest : List Word) → slots_behind s (word_of text) ≡ []
+    → (can_stand s (word_of text) ≡ true → IsAlone scope s v text)
     → misplaced (s ∷ slots) (word_of text ∷ rest) ≡ None → IsPlaced scope s v (text ∷ []) × (misplaced slots rest ≡ None)
 alone scope s v text slots rest behind is fault =
     let p = one_stands s slots (word_of text) rest fault in
-    let a = is p.0 in
-    (
+    let a = is p.0 in (
       record { piece = Raw (word_of text); first = λ r. stays_raw scope (word_of text) r a.none; same = a.same; proper = (a.proper, tt) },
       subst (λ (x : List Slot). misplaced (x ++ slots) rest ≡ None) behind p.1,
     )
@@ -104,11 +103,13 @@ a_kind scope Nonrecursive = record { none = refl; same = refl; proper = fixed_pr
 named : (scope : Scope) (s : Slot) (v : Value) (text : List ℕ) → is_name text ≡ true → value_in scope s (Some (Raw (word_of text))) ≡ v → IsAlone scope s v text
 named scope s v text name same = record { none = name_no_operator text name; same = same; proper = name_proper text name }
 
-declared : (scope : Scope) (k : kinds.Object) (id : NameId) → IsScope scope → can_stand (slot.Declared k) (word_of (name_of scope id)) ≡ true → IsAlone scope (slot.Declared k) (value.Id id) (name_of scope id)
+declared : (scope : Scope) (k : kinds.Object) (id : NameId) → IsScope scope → can_stand (slot.Declared k) (word_of (name_of scope id)) ≡ true
+    → IsAlone scope (slot.Declared k) (value.Id id) (name_of scope id)
 unfolding value_in
 declared scope k id s can = let f = id_found is_a_name refl scope id s can in named scope (slot.Declared k) (value.Id id) (name_of scope id) f.0 (ap value.Id f.1)
 
-an_object : (scope : Scope) (k : kinds.Object) (id : NameId) → IsScope scope → can_stand (slot.Object k) (word_of (name_of scope id)) ≡ true → IsAlone scope (slot.Object k) (value.Id id) (name_of scope id)
+an_object : (scope : Scope) (k : kinds.Object) (id : NameId) → IsScope scope → can_stand (slot.Object k) (word_of (name_of scope id)) ≡ true
+    → IsAlone scope (slot.Object k) (value.Id id) (name_of scope id)
 unfolding value_in
 an_object scope k id s can = let f = id_found is_a_name refl scope id s can in named scope (slot.Object k) (value.Id id) (name_of scope id) f.0 (ap value.Id f.1)
 
@@ -116,7 +117,8 @@ a_variable : (scope : Scope) (v : Var) → IsScope scope → can_stand slot.Vari
 unfolding value_in
 a_variable scope v s can = let k = variable_again is_a_name refl scope v s can in named scope slot.Variable (value.Variable v) (variable_of scope v) k.name (ap value.Variable k.again)
 
-a_receiver : (scope : Scope) (place : ℕ) → IsScope scope → can_stand slot.Receiver (word_of (local_of scope place)) ≡ true → IsAlone scope slot.Receiver (value.Receiver (Some place)) (local_of scope place)
+a_receiver : (scope : Scope) (place : ℕ) → IsScope scope → can_stand slot.Receiver (word_of (local_of scope place)) ≡ true
+    → IsAlone scope slot.Receiver (value.Receiver (Some place)) (local_of scope place)
 unfolding value_in
 a_receiver scope place s can =
     let f = place_found is_a_name refl scope place s can in
@@ -156,11 +158,13 @@ nothing_stands_not : (k : kinds.Object) → can_stand (slot.ObjectOr k) (Mark []
 nothing_stands_not object.Routine = refl
 nothing_stands_not _ = refl
 
-maybe_same : (scope : Scope) (k : kinds.Object) (w : Word) (id : NameId) → is_one_of (absent_word k ∷ []) w ≡ false → id_in scope w ≡ id → value_in scope (slot.ObjectOr k) (Some (Raw w)) ≡ value.Maybe (Some id)
+maybe_same : (scope : Scope) (k : kinds.Object) (w : Word) (id : NameId) → is_one_of (absent_word k ∷ []) w ≡ false → id_in scope w ≡ id
+    → value_in scope (slot.ObjectOr k) (Some (Raw w)) ≡ value.Maybe (Some id)
 unfolding value_in
 maybe_same scope k w id other same = rw other (ap (λ (x : NameId). value.Maybe (Some x)) same)
 
-present : (scope : Scope) (k : kinds.Object) (id : NameId) → IsScope scope → can_stand (slot.ObjectOr k) (word_of (name_of scope id)) ≡ true → IsAlone scope (slot.ObjectOr k) (value.Maybe (Some id)) (name_of scope id)
+present : (scope : Scope) (k : kinds.Object) (id : NameId) → IsScope scope → can_stand (slot.ObjectOr k) (word_of (name_of scope id)) ≡ true
+    → IsAlone scope (slot.ObjectOr k) (value.Maybe (Some id)) (name_of scope id)
 present scope k id s can =
     let f = id_found (can_stand (slot.ObjectOr k)) (nothing_stands_not k) scope id s can in
     let t = name_of scope id in
@@ -174,7 +178,8 @@ value_numbers (value.Number n) = n ∷ []
 value_numbers (value.Expression e) = expr_numbers e
 value_numbers _ = []
 
-slot_read : (scope : Scope) → IsScope scope → (s : Slot) (v : Value) (slots : List Slot) (rest : List Word) → IsIn s v → AreSigned (value_numbers v) → misplaced (s ∷ slots) (map word_of (words_at scope s v) ++ rest) ≡ None → IsReadIn scope s v slots rest
+slot_read : (scope : Scope) → IsScope scope → (s : Slot) (v : Value) (slots : List Slot) (rest : List Word) → IsIn s v → AreSigned (value_numbers v)
+    → misplaced (s ∷ slots) (map word_of (words_at scope s v) ++ rest) ≡ None → IsReadIn scope s v slots rest
 unfolding value_in
 slot_read scope sc slot.Number (value.Number n) slots rest is signed fault = inl (alone scope slot.Number (value.Number n) (signed_decimal n) slots rest refl (λ can. a_number scope n signed) fault)
 slot_read scope sc (slot.Fixed choice.Interface) (value.Interface i) slots rest is signed fault = inl (alone scope (slot.Fixed choice.Interface) (value.Interface i) (interface_word i) slots rest refl (λ can. an_interface scope i) fault)
@@ -221,18 +226,20 @@ AreReadIn scope slots vs = (values_in scope slots (pieces_of scope (map word_of 
 same_parts : (v w : Value) (vs ws : List Value) → v ≡ w → vs ≡ ws → v ∷ vs ≡ w ∷ ws
 same_parts v w vs ws e f = rw (e, f) refl
 
-parts_read : (scope : Scope) (s : Slot) (v : Value) (slots : List Slot) (vs : List Value) (p : Piece) (words : List Word) → pieces_of scope words ≡ p ∷ pieces_of scope (map word_of (words_in_slots scope slots vs)) → value_in scope s (Some p) ≡ v
+parts_read : (scope : Scope) (s : Slot) (v : Value) (slots : List Slot) (vs : List Value) (p : Piece) (words : List Word)
+    → pieces_of scope words ≡ p ∷ pieces_of scope (map word_of (words_in_slots scope slots vs)) → value_in scope s (Some p) ≡ v
     → values_in scope slots (pieces_of scope (map word_of (words_in_slots scope slots vs))) ≡ vs → values_in scope (s ∷ slots) (pieces_of scope words) ≡ v ∷ vs
 unfolding values_in
 parts_read scope s v slots vs p words e first more = rw e (same_parts (value_in scope s (Some p)) v (values_in scope slots (pieces_of scope (map word_of (words_in_slots scope slots vs)))) vs first more)
 
-slot_then : (scope : Scope) (s : Slot) (v : Value) (slots : List Slot) (vs : List Value) → IsPlaced scope s v (words_at scope s v) → AreReadIn scope slots vs → AreReadIn scope (s ∷ slots) (v ∷ vs)
+slot_then : (scope : Scope) (s : Slot) (v : Value) (slots : List Slot) (vs : List Value) → IsPlaced scope s v (words_at scope s v) → AreReadIn scope slots vs
+    → AreReadIn scope (s ∷ slots) (v ∷ vs)
 unfolding words_in_slots
 slot_then scope s v slots vs p more = (
   parts_read scope s v slots vs p.piece (map word_of (words_at scope s v ++ words_in_slots scope slots vs))
-  (ap (pieces_of scope) (map-append word_of (words_at scope s v) (words_in_slots scope slots vs)) ∙ p.first (map word_of (words_in_slots scope slots vs)))
-  p.same
-  more.0,
+      (ap (pieces_of scope) (map-append word_of (words_at scope s v) (words_in_slots scope slots vs)) ∙ p.first (map word_of (words_in_slots scope slots vs)))
+      p.same
+      more.0,
   proper_append (words_at scope s v) (words_in_slots scope slots vs) p.proper more.1,
 )
 
@@ -248,13 +255,15 @@ no_more_values : (vs : List Value) → AreIn [] vs → vs ≡ []
 no_more_values [] h = refl
 no_more_values (v ∷ vs) h = absurd h
 
-receiver_empty : (scope : Scope) (slots : List Slot) (vs : List Value) → receiver_last (slot.Receiver ∷ slots) ≡ true → AreIn slots vs → AreReadIn scope (slot.Receiver ∷ slots) (value.Receiver None ∷ vs)
+receiver_empty : (scope : Scope) (slots : List Slot) (vs : List Value) → receiver_last (slot.Receiver ∷ slots) ≡ true → AreIn slots vs
+    → AreReadIn scope (slot.Receiver ∷ slots) (value.Receiver None ∷ vs)
 receiver_empty scope slots vs last fit =
     let n = no_more_slots slots last in
     let m = no_more_values vs (subst (λ (x : List Slot). AreIn x vs) n fit) in
     rw (n, m) (empty_last scope)
 
-slot_empty : (scope : Scope) (s : Slot) (v : Value) (slots : List Slot) (vs : List Value) → s ≡ slot.Receiver → v ≡ value.Receiver None → receiver_last (s ∷ slots) ≡ true → AreIn slots vs → AreReadIn scope (s ∷ slots) (v ∷ vs)
+slot_empty : (scope : Scope) (s : Slot) (v : Value) (slots : List Slot) (vs : List Value) → s ≡ slot.Receiver → v ≡ value.Receiver None → receiver_last (s ∷ slots) ≡ true
+    → AreIn slots vs → AreReadIn scope (s ∷ slots) (v ∷ vs)
 slot_empty scope s v slots vs e f last fit =
     rw (e, f) (receiver_empty scope slots vs (subst (λ (x : Slot). receiver_last (x ∷ slots) ≡ true) e last) fit)
 
@@ -268,7 +277,8 @@ unfolding words_in_slots values_in
 nothing_in_slots scope = (refl, tt)
 
 -- Words without a fault of form are resolved to the values that they spell.
-pub values_read : (scope : Scope) → IsScope scope → (slots : List Slot) (vs : List Value) → AreIn slots vs → receiver_last slots ≡ true → AreSigned (values_numbers vs) → misplaced slots (map word_of (words_in_slots scope slots vs)) ≡ None → AreReadIn scope slots vs
+pub values_read : (scope : Scope) → IsScope scope → (slots : List Slot) (vs : List Value) → AreIn slots vs → receiver_last slots ≡ true → AreSigned (values_numbers vs)
+    → misplaced slots (map word_of (words_in_slots scope slots vs)) ≡ None → AreReadIn scope slots vs
 values_read scope sc [] [] fit last signed fault = nothing_in_slots scope
 values_read scope sc [] (v ∷ vs) fit last signed fault = absurd fit
 values_read scope sc (s ∷ slots) [] fit last signed fault = absurd fit

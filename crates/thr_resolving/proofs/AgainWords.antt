@@ -1,6 +1,6 @@
 -- Texts whose words are words of a line, each the same text again.
-use Rattle.std.proofs.Common.{◌≡◌, ℕ, ℤ, pos, negsuc, Bool, true, false, cond, List, [], ◌∷◌, ◌++◌, map, refl, sym, ap, ◌∙◌, inl, inr, arith}
-use Rattle.std.specs.Prelude.{◌&&◌, ◌||◌, not, ◌==◌, nat_lt, nat_le, length, slice_index, FitsSigned}
+use Rattle.std.proofs.Common.{◌≡◌, ℕ, ℤ, Bool, true, false, List, [], ◌∷◌, ◌++◌, map, refl, sym, ap, ◌∙◌, inl, inr, arith}
+use Rattle.std.specs.Prelude.{◌&&◌, not, ◌==◌, nat_lt, nat_le, length, FitsSigned}
 use Rattle.std.specs.Int.{w64}
 use Rattle.std.specs.Fmt.{signed_decimal}
 use Rattle.std.specs.List.{list_all}
@@ -10,7 +10,7 @@ use Rattle.std.proofs.lemmas.Bool.Decides.{nat_tests}
 use Rattle.thr_text.specs.declared.word.Word.{Word}
 use Rattle.thr_text.specs.declared.word.Word.TheVariants.{Num, Name, Mark}
 use Rattle.thr_text.specs.Names.{is_letter, is_letter_or_digit, has_name_form, is_reserved, is_name}
-use Rattle.thr_text.specs.Lexing.{is_something, is_ink, has_minus, digits_of, has_number_form, word_of, words_of, pieces_of, word_text, line_text, IsOfLine, AreOfLine}
+use Rattle.thr_text.specs.Lexing.{is_something, is_ink, has_number_form, word_of, word_text, IsOfLine, AreOfLine}
 use Rattle.thr_lexer.proofs.Canon.{and_both, inked, texts_again, line_again}
 
 pub record IsProper (text : List ℕ) : Type 0 where

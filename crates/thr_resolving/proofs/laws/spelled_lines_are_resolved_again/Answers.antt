@@ -1,8 +1,8 @@
-use Rattle.thr_resolving.proofs.AgainLines.{again, line_shape, line_of_line, line_texts}
+use Rattle.thr_resolving.proofs.AgainLines.{line_resolved, line_shape, line_of_line, line_texts}
 use Rattle.thr_resolving.proofs.laws.spelled_lines_are_resolved_again.Goals as goal
 
 pub returns-clause-again : goal.returns-clause-again
-returns-clause-again c = again
+returns-clause-again c = line_resolved
 
 pub returns-clause-shape : goal.returns-clause-shape
 returns-clause-shape c = line_shape
