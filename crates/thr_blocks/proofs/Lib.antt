@@ -5,5 +5,6 @@ pub mod FaultlessLaws
 pub mod Flat
 pub mod NestLaws
 pub mod PutLaws
+pub mod TreesNest
 pub mod Walks
 pub mod PlacementLaws

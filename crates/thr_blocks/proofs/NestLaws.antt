@@ -23,11 +23,11 @@ use Rattle.thr_text.specs.Blocks.{form_shape, begun, blocks_below, nesting_fault
 use Rattle.thr_blocks.specs.Trees.{nests_step, clause_nests_step, clauses_nest, stmt_nests, body_nests, item_nests}
 use Rattle.thr_blocks.proofs.Flat.{clauses_lines, items_lines}
 
-both : (a b : Bool) → (a && b) ≡ true → (a ≡ true) × (b ≡ true)
+pub both : (a b : Bool) → (a && b) ≡ true → (a ≡ true) × (b ≡ true)
 both true b e = (refl, e)
 both false b e = absurd cc
 
-abbrev Nested : List Block → List Form → Type 0
+abbrev pub Nested : List Block → List Form → Type 0
 Nested bs forms = Nest bs (map form_shape forms)
 
 -- ---- lines that begin a statement have their place in every block
@@ -132,11 +132,11 @@ begun_is_open (CatchAllBody ∷ bs) o = refl
 begun_is_open (FinallyBody ∷ bs) o = refl
 
 -- The blocks below these statements.
-abbrev after : List Stmt → List Block → List Block
+abbrev pub after : List Stmt → List Block → List Block
 after [] bs = bs
 after (s ∷ body) bs = begun bs
 
-after_begun : (body : List Stmt) (bs : List Block) → after body (begun bs) ≡ begun bs
+pub after_begun : (body : List Stmt) (bs : List Block) → after body (begun bs) ≡ begun bs
 after_begun [] bs = refl
 after_begun (s ∷ body) bs = begun_twice bs
 
@@ -152,7 +152,7 @@ Passes s = stmt_nests s ≡ true → (bs : List Block) (rest : List Form) → is
 abbrev PassesBody : List Stmt → Type 0
 PassesBody body = body_nests body ≡ true → (bs : List Block) (rest : List Form) → is_open bs ≡ true → Nested (after body bs) rest → Nested bs (body_lines body ++ rest)
 
-abbrev nests_of : Clause → Bool × Bool
+abbrev pub nests_of : Clause → Bool × Bool
 nests_of c = each_clause nests_step clause_nests_step c
 
 -- The first clause, or one after a `catch`.
@@ -282,7 +282,7 @@ unfolding form_shape blocks_below
 clause_of x b bs body forms in_body p h n = (refl, p h (CatchBody ∷ bs) forms refl (inner body (CatchBody ∷ bs) forms refl n))
 clause_of x b bs body forms in_catch p h n = (refl, p h (CatchBody ∷ bs) forms refl (inner body (CatchBody ∷ bs) forms refl n))
 
-abbrev clause_with : Option NameId → List Stmt → Clause
+abbrev pub clause_with : Option NameId → List Stmt → Clause
 clause_with names body = record { names = names; body = body }
 
 regroup_clause : (bs : List Block) (f : Form) (body more end rest : List Form) → Nested bs (f ∷ (body ++ ((more ++ end) ++ rest))) → Nested bs ((((f ∷ body) ++ more) ++ end) ++ rest)

@@ -349,8 +349,9 @@ pub fn lines_determine_items()
     ensures { (xs ys : List Item) → Nest [] (map form_shape (joined (map item_lines xs))) → joined (map item_lines xs) ≡ joined (map item_lines ys) → xs ≡ ys }
 {}
 
-/// The lines of declarations nest, where each routine has its parameter, and each try a `finally` or at least one clause
-/// and none after its `catch_all`.
+/// The lines of declarations nest exactly where each routine has its parameter, and each try a `finally` or at least one
+/// clause and none after its `catch_all`.
 pub fn lines_of_trees_nest()
-    ensures { (all : List Item) → list_all item_nests all ≡ true → Nest [] (map form_shape (joined (map item_lines all))) }
+    ensures nest { (all : List Item) → list_all item_nests all ≡ true → Nest [] (map form_shape (joined (map item_lines all))) }
+    ensures trees { (all : List Item) → Nest [] (map form_shape (joined (map item_lines all))) → list_all item_nests all ≡ true }
 {}

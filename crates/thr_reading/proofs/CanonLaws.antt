@@ -26,11 +26,13 @@ use Rattle.thr_resolving.specs.Resolving.{scope_of}
 use Rattle.thr_resolving.specs.Scopes.{IsScope}
 use Rattle.thr_reading.specs.Running.{locals_after_form, spelled_lines}
 use Rattle.thr_reading.specs.Naming.{AreScopes}
-use Rattle.thr_reading.proofs.OwnLaws.{items_own, no_header}
+use Rattle.thr_reading.proofs.OwnLaws.{items_own, no_header, has_words}
 use Rattle.thr_reading.proofs.OneScript.{tree_lines, formed_words, formed_scopes, own_spelled}
 use Rattle.thr_reading.proofs.ReadLaws.{words_numbered}
 use Rattle.thr_reading.proofs.WrittenLines.{ArePlain, ended, lines_again}
-use Rattle.thr_reading.proofs.Stubs.{own_of_names, same_locals, spelled_of_line, spelled_texts, spelled_first}
+use Rattle.thr_resolving.proofs.AgainLines.{line_of_line, line_texts}
+use Rattle.thr_reading.proofs.Stubs.{own_of_names}
+use Rattle.thr_reading.proofs.LocalsLaws.{same_locals}
 
 abbrev Lines : Type 0
 Lines = List (List Word)
@@ -59,10 +61,6 @@ abbrev AreWritten : Texts → Type 0
 AreWritten [] = Unit {0}
 AreWritten (ts ∷ tss) = IsWritten ts × AreWritten tss
 
-some_words : (scope : Scope) (f : Form) → (f ≡ form.Header → ⊥) → (texts : List (List ℕ)) → form_words scope f ≡ texts → map word_of texts ≡ [] → ⊥
-some_words scope f own [] is e = spelled_first scope f own is
-some_words scope f own (t ∷ texts) is e = absurd cc
-
 written_lines : (names locals : List (List ℕ)) (fs : List Form) → list_all is_own fs ≡ true → HaveNumbers fs
     → HaveForms (texts_words (spelled_lines names locals fs)) → AreScopes names locals (texts_words (spelled_lines names locals fs)) → AreWritten (spelled_lines names locals fs)
 unfolding spelled_lines
@@ -76,9 +74,9 @@ written_lines names locals (f ∷ fs) own numbers forms scopes =
     let good : IsScope scope = subst (λ (k : List (List ℕ)). IsScope (scope_of names k)) same scopes.0 in
     (
       record {
-        some = some_words scope f o (form_words scope f) refl;
-        text = ap (join_with_byte 32) (sym (spelled_texts scope f good o numbers.0 forms.0));
-        of_line = spelled_of_line scope f good o numbers.0 forms.0;
+        some = has_words scope f o;
+        text = ap (join_with_byte 32) (sym (line_texts scope f good o numbers.0 forms.0));
+        of_line = line_of_line scope f good o numbers.0 forms.0;
         form = forms.0;
         faultless = forms.1;
       },

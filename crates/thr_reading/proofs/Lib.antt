@@ -1,4 +1,6 @@
 pub mod Stubs
+pub mod RunningLaws
+pub mod LocalsLaws
 pub mod LineWords
 pub mod OwnLaws
 pub mod ReadLaws

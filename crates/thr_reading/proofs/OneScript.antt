@@ -31,9 +31,13 @@ use Rattle.thr_resolving.specs.Scopes.{IsScope}
 use Rattle.thr_reading.specs.Running.{locals_after_form, spelled_lines}
 use Rattle.thr_reading.specs.Naming.{AreScopes}
 use Rattle.thr_reading.proofs.LineWords.{first_nil, second_nil, none_at}
-use Rattle.thr_reading.proofs.OwnLaws.{items_own, item_own, no_header}
+use Rattle.thr_reading.proofs.OwnLaws.{items_own, item_own, no_header, has_words}
 use Rattle.thr_reading.proofs.ReadLaws.{words_numbered, entry_names}
-use Rattle.thr_reading.proofs.Stubs.{HaveSomeForm, names_are_scopes, own_of_names, running_is_item, same_locals, trees_of_nest, spelled_again, spelled_shape, spelled_first}
+use Rattle.thr_blocks.proofs.TreesNest.{trees_nest}
+use Rattle.thr_resolving.proofs.AgainLines.{line_resolved, line_shape}
+use Rattle.thr_reading.proofs.Stubs.{HaveSomeForm, names_are_scopes, own_of_names}
+use Rattle.thr_reading.proofs.RunningLaws.{running_is_item}
+use Rattle.thr_reading.proofs.LocalsLaws.{same_locals}
 
 abbrev Lines : Type 0
 Lines = List (List Word)
@@ -51,7 +55,7 @@ shapes_of : (scope : Scope) (fs : List Form) → list_all is_own fs ≡ true →
 shapes_of scope [] h = refl
 shapes_of scope (f ∷ fs) h =
     let p = both (is_own f) (list_all is_own fs) h in
-    ap (λ x. x ∷ map form_shape fs) (spelled_shape scope f (no_header f p.0)) ∙ ap (λ xs. shape_of_line (map word_of (form_words scope f)) ∷ xs) (shapes_of scope fs p.1)
+    ap (λ x. x ∷ map form_shape fs) (line_shape scope f (no_header f p.0)) ∙ ap (λ xs. shape_of_line (map word_of (form_words scope f)) ∷ xs) (shapes_of scope fs p.1)
 
 item_shapes : (names : List (List ℕ)) (items : List Item) → map form_shape (joined (map item_lines items)) ≡ map shape_of_line (texts_words (joined (map (item_words names) items)))
 item_shapes names [] = refl
@@ -76,7 +80,7 @@ formed_nests s h =
 
 -- The words of the script's own lines, spelled with the locals in force at each.
 pub formed_words : (s : Script) → Formed s → spelled_lines s.names [] (tree_lines s) ≡ joined (map (item_words s.names) s.items)
-formed_words s h = running_is_item s.names [] s.items (trees_of_nest s.items (formed_nests s h))
+formed_words s h = running_is_item s.names [] s.items (trees_nest s.items (formed_nests s h))
 
 -- ---- numbers of `limit` and `pipe` lines are in range
 
@@ -128,12 +132,8 @@ resolved_again names locals (f ∷ fs) own numbers forms range scopes =
     let same : locals_below locals l ≡ below = same_locals scope locals f (no_header f p.0) forms.0 in
     let good : IsScope scope = subst (λ (k : List (List ℕ)). IsScope (scope_of names k)) same scopes.0 in
     ap (λ (k : List (List ℕ)). resolved (scope_of names k) l ∷ resolved_lines names k rest) same
-    ∙ ap (λ (g : Form). g ∷ resolved_lines names below rest) (spelled_again scope f good (no_header f p.0) numbers.0 forms.0 range.0)
+    ∙ ap (λ (g : Form). g ∷ resolved_lines names below rest) (line_resolved scope f good (no_header f p.0) numbers.0 forms.0 range.0)
     ∙ ap (λ (gs : List Form). f ∷ gs) (resolved_again names below fs p.1 numbers.1 forms.2 range.1 (subst (λ (k : List (List ℕ)). AreScopes names k rest) same scopes.1))
-
-some_words : (scope : Scope) (f : Form) → (f ≡ form.Header → ⊥) → (texts : List (List ℕ)) → form_words scope f ≡ texts → map word_of texts ≡ [] → ⊥
-some_words scope f own [] is e = spelled_first scope f own is
-some_words scope f own (t ∷ texts) is e = absurd cc
 
 some_form : (names locals : List (List ℕ)) (fs : List Form) → list_all is_own fs ≡ true → HaveForms (texts_words (spelled_lines names locals fs)) → HaveSomeForm (texts_words (spelled_lines names locals fs))
 unfolding spelled_lines
@@ -142,7 +142,7 @@ some_form names locals (f ∷ fs) own h =
     let below = locals_after_form locals f in
     let scope = scope_of names below in
     let p = both (is_own f) (list_all is_own fs) own in
-    ((some_words scope f (no_header f p.0) (form_words scope f) refl, h.0), some_form names below fs p.1 h.2)
+    ((has_words scope f (no_header f p.0), h.0), some_form names below fs p.1 h.2)
 
 pub own_spelled : (s : Script) → Formed s → texts_words (spelled_lines s.names [] (tree_lines s)) ≡ own_lines s
 own_spelled s h = ap texts_words (formed_words s h)

@@ -17,7 +17,13 @@ use Rattle.thr_syntax.specs.declared.tree.Item.TheVariants as item
 use Rattle.thr_syntax.specs.Lines.{joined, stmt_step, clause_step, clause_form, stmt_lines, body_lines, head_lines, item_lines}
 use Rattle.thr_syntax.proofs.TreeInduction.{StmtCases, body_induction}
 use Rattle.thr_syntax.proofs.FoldLaws.{each_clause, each_stmt-Set, each_stmt-Say, each_stmt-If, each_stmt-While, each_stmt-TryCatch, each_stmt-TryFinally, each_stmt-Raise, each_stmt-Reraise, each_stmt-Call, each_stmt-Return, each_stmt-Exit, each_stmt-Dce}
+use Rattle.thr_syntax.specs.Spelling.{Scope, form_words}
+use Rattle.thr_text.specs.Heads.{head_word}
+use Rattle.thr_text.specs.Lexing.{word_of}
+use Rattle.thr_text.specs.Slots.{slots_of}
 use Rattle.thr_blocks.specs.Build.{is_own}
+use Rattle.thr_resolving.proofs.Parts.{form_head, form_values, words_in_slots}
+use Rattle.thr_resolving.proofs.FormTables.{spelled}
 
 abbrev AreOwn : List Form → Type 0
 AreOwn fs = list_all is_own fs ≡ true
@@ -119,3 +125,12 @@ items_own (i ∷ items) = own_append (item_lines i) (joined (map item_lines item
 
 pub no_header : (f : Form) → is_own f ≡ true → f ≡ form.Header → ⊥
 no_header f h e = let k : is_own form.Header ≡ true = subst (λ (g : Form). is_own g ≡ true) e h in cc
+
+-- ---- each line has words
+
+some_texts : (ts : List (List ℕ)) (t : List ℕ) (more : List (List ℕ)) → ts ≡ t ∷ more → map word_of ts ≡ [] → ⊥
+some_texts [] t more is e = cc
+some_texts (u ∷ ts) t more is e = absurd cc
+
+pub has_words : (scope : Scope) (f : Form) → (f ≡ form.Header → ⊥) → map word_of (form_words scope f) ≡ [] → ⊥
+has_words scope f own = some_texts (form_words scope f) (head_word (form_head f)) (words_in_slots scope (slots_of (form_head f)) (form_values f)) (spelled scope f own)

@@ -30,7 +30,10 @@ use Rattle.thr_resolving.specs.Scopes.{IsFaultless}
 use Rattle.thr_reading.specs.Running.{locals_after_form, spelled_lines}
 use Rattle.thr_reading.specs.Naming.{AreFaultless, HaveGoodWords}
 use Rattle.thr_reading.proofs.LineWords.{AreGood, first_nil, second_nil, good_lines, fewer_lines}
-use Rattle.thr_reading.proofs.Stubs.{names_are_faultless, own_renumbered, blocks_renumbered, short_names, own_of_names, running_is_item, same_locals, trees_of_nest, resolved_words, resolved_numbers, resolved_shape, resolved_own}
+use Rattle.thr_blocks.proofs.TreesNest.{trees_nest}
+use Rattle.thr_reading.proofs.Stubs.{names_are_faultless, own_renumbered, blocks_renumbered, short_names, own_of_names, resolved_words, resolved_numbers, resolved_shape, resolved_own}
+use Rattle.thr_reading.proofs.RunningLaws.{running_is_item}
+use Rattle.thr_reading.proofs.LocalsLaws.{same_locals}
 
 -- ---- resolved lines have the words, the shapes and the numbers of their lines
 
@@ -156,7 +159,7 @@ words_again : (bytes : List ℕ) (items : List Item) → AreFaultfree bytes → 
 words_again bytes items h is =
     let names = keys_of (kept_entries bytes) in
     let nest : Nest [] (map form_shape (joined (map item_lines items))) = subst (λ (fs : List Form). Nest [] (map form_shape fs)) (sym is) (forms_nest bytes h) in
-    ap texts_words (sym (running_is_item names [] items (trees_of_nest items nest)))
+    ap texts_words (sym (running_is_item names [] items (trees_nest items nest)))
     ∙ ap (λ (fs : List Form). texts_words (spelled_lines names [] fs)) is
     ∙ spelled_again (kept_entries bytes) [] (kept_words bytes) (lines_faultless bytes h)
 

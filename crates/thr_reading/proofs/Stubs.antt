@@ -44,15 +44,6 @@ short_names end lines h e = ?
 pub own_of_names : (end : ℕ) (lines : List Line) → name_faults end lines ≡ [] → (end ≤ 20001) × (own_faults end lines ≡ [])
 own_of_names end lines e = ?
 
-pub running_is_item : (names locals : List (List ℕ)) (items : List Item) → list_all item_nests items ≡ true → spelled_lines names locals (joined (map item_lines items)) ≡ joined (map (item_words names) items)
-running_is_item names locals items h = ?
-
-pub same_locals : (scope : Scope) (locals : List (List ℕ)) (f : Form) → (f ≡ form.Header → ⊥) → form_fault (map word_of (form_words scope f)) ≡ None → locals_below locals (map word_of (form_words scope f)) ≡ locals_after_form locals f
-same_locals scope locals f o e = ?
-
-pub trees_of_nest : (all : List Item) → Nest [] (map form_shape (joined (map item_lines all))) → list_all item_nests all ≡ true
-trees_of_nest all n = ?
-
 -- ---- the laws of resolved lines
 
 pub resolved_words : (entries : List Entry) (locals : List (List ℕ)) (line : List Word) → IsFaultless entries locals line → map word_of (form_words (scope_of (keys_of entries) locals) (resolved (scope_of (keys_of entries) locals) line)) ≡ line
@@ -67,17 +58,3 @@ resolved_shape entries locals line h = ?
 pub resolved_own : (entries : List Entry) (locals : List (List ℕ)) (line : List Word) → IsFaultless entries locals line → resolved (scope_of (keys_of entries) locals) line ≡ form.Header → ⊥
 resolved_own entries locals line h = ?
 
-pub spelled_again : (scope : Scope) (f : Form) → IsScope scope → (f ≡ form.Header → ⊥) → AreSigned (form_numbers f) → form_fault (map word_of (form_words scope f)) ≡ None → is_out_of_range (head_of_line (map word_of (form_words scope f))) (rest_of (map word_of (form_words scope f))) ≡ false → resolved scope (map word_of (form_words scope f)) ≡ f
-spelled_again scope f s o n e r = ?
-
-pub spelled_shape : (scope : Scope) (f : Form) → (f ≡ form.Header → ⊥) → form_shape f ≡ shape_of_line (map word_of (form_words scope f))
-spelled_shape scope f o = ?
-
-pub spelled_of_line : (scope : Scope) (f : Form) → IsScope scope → (f ≡ form.Header → ⊥) → AreSigned (form_numbers f) → form_fault (map word_of (form_words scope f)) ≡ None → AreOfLine (map word_of (form_words scope f))
-spelled_of_line scope f s o n e = ?
-
-pub spelled_texts : (scope : Scope) (f : Form) → IsScope scope → (f ≡ form.Header → ⊥) → AreSigned (form_numbers f) → form_fault (map word_of (form_words scope f)) ≡ None → map word_text (map word_of (form_words scope f)) ≡ form_words scope f
-spelled_texts scope f s o n e = ?
-
-pub spelled_first : (scope : Scope) (f : Form) → (f ≡ form.Header → ⊥) → form_words scope f ≡ [] → ⊥
-spelled_first scope f o e = ?

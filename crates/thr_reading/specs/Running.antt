@@ -1,4 +1,4 @@
--- The parameter and locals that are in force at each line of a script.
+-- The lines of a script, each spelled with the names that are in force at it.
 use Rattle.std.specs.Prelude.{ℕ, List, [], ◌∷◌, ◌++◌}
 use Rattle.thr_syntax.specs.declared.form.Form.{Form}
 use Rattle.thr_syntax.specs.declared.form.Form.TheVariants as form
