@@ -26,7 +26,7 @@ use Rattle.thr_resolving.specs.Resolving.{scope_of}
 use Rattle.thr_resolving.specs.Scopes.{IsScope}
 use Rattle.thr_reading.specs.Running.{locals_after_form, spelled_lines}
 use Rattle.thr_reading.specs.Naming.{AreScopes}
-use Rattle.thr_reading.proofs.OwnLaws.{items_own, no_header, has_words}
+use Rattle.thr_reading.proofs.OwnLaws.{items_own, no_header, some_words}
 use Rattle.thr_reading.proofs.OneScript.{tree_lines, formed_words, formed_scopes, own_spelled}
 use Rattle.thr_reading.proofs.ReadLaws.{words_numbered}
 use Rattle.thr_reading.proofs.WrittenLines.{ArePlain, ended, lines_again}
@@ -74,7 +74,7 @@ written_lines names locals (f ∷ fs) own numbers forms scopes =
     let good : IsScope scope = subst (λ (k : List (List ℕ)). IsScope (scope_of names k)) same scopes.0 in
     (
       record {
-        some = has_words scope f o;
+        some = some_words scope f o;
         text = ap (join_with_byte 32) (sym (line_texts scope f good o numbers.0 forms.0));
         of_line = line_of_line scope f good o numbers.0 forms.0;
         form = forms.0;

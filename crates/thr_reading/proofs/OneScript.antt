@@ -31,7 +31,7 @@ use Rattle.thr_resolving.specs.Scopes.{IsScope}
 use Rattle.thr_reading.specs.Running.{locals_after_form, spelled_lines}
 use Rattle.thr_reading.specs.Naming.{AreScopes}
 use Rattle.thr_reading.proofs.LineWords.{first_nil, second_nil, none_at}
-use Rattle.thr_reading.proofs.OwnLaws.{items_own, item_own, no_header, has_words}
+use Rattle.thr_reading.proofs.OwnLaws.{items_own, item_own, no_header, some_words}
 use Rattle.thr_reading.proofs.ReadLaws.{words_numbered, entry_names}
 use Rattle.thr_blocks.proofs.TreesNest.{trees_nest}
 use Rattle.thr_resolving.proofs.AgainLines.{line_resolved, line_shape}
@@ -142,7 +142,7 @@ some_form names locals (f ∷ fs) own h =
     let below = locals_after_form locals f in
     let scope = scope_of names below in
     let p = both (is_own f) (list_all is_own fs) own in
-    ((has_words scope f (no_header f p.0), h.0), some_form names below fs p.1 h.2)
+    ((some_words scope f (no_header f p.0), h.0), some_form names below fs p.1 h.2)
 
 pub own_spelled : (s : Script) → Formed s → texts_words (spelled_lines s.names [] (tree_lines s)) ≡ own_lines s
 own_spelled s h = ap texts_words (formed_words s h)

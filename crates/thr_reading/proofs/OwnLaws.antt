@@ -132,5 +132,5 @@ some_texts : (ts : List (List ℕ)) (t : List ℕ) (more : List (List ℕ)) → 
 some_texts [] t more is e = cc
 some_texts (u ∷ ts) t more is e = absurd cc
 
-pub has_words : (scope : Scope) (f : Form) → (f ≡ form.Header → ⊥) → map word_of (form_words scope f) ≡ [] → ⊥
-has_words scope f own = some_texts (form_words scope f) (head_word (form_head f)) (words_in_slots scope (slots_of (form_head f)) (form_values f)) (spelled scope f own)
+pub some_words : (scope : Scope) (f : Form) → (f ≡ form.Header → ⊥) → map word_of (form_words scope f) ≡ [] → ⊥
+some_words scope f own = some_texts (form_words scope f) (head_word (form_head f)) (words_in_slots scope (slots_of (form_head f)) (form_values f)) (spelled scope f own)
