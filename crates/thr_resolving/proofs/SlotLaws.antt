@@ -5,6 +5,7 @@ use Rattle.std.specs.Map.{keys_of}
 use Rattle.std.proofs.lemmas.Bool.{cases_Bool}
 use Rattle.thr_values.specs.Words.{policy_words, kind_words, inherit_words, cancel_words}
 use Rattle.thr_syntax.specs.Spelling.{Scope}
+use Rattle.thr_syntax.specs.declared.expr.Expr.{Expr}
 use Rattle.thr_text.specs.declared.word.Word.{Word}
 use Rattle.thr_text.specs.declared.word.Word.TheVariants.{Num, Name, Mark}
 use Rattle.thr_text.specs.declared.object.Object as kinds
@@ -13,7 +14,7 @@ use Rattle.thr_text.specs.declared.head.Choice.{Choice}
 use Rattle.thr_text.specs.declared.head.Choice.TheVariants as choice
 use Rattle.thr_text.specs.declared.head.Slot.{Slot}
 use Rattle.thr_text.specs.declared.head.Slot.TheVariants.{Number, Fixed, Declared, Parameter, Local, Object, ObjectOr, Variable, Receiver, Exception, Expression}
-use Rattle.thr_text.specs.Grammar.{OneWord, Fills, term_words}
+use Rattle.thr_text.specs.Grammar.{Term, term_words, IsTerm, OneWord, Fills}
 use Rattle.thr_text.specs.Lexing.{word_of, IsOfLine, AreOfLine}
 use Rattle.thr_text.specs.Numbers.{AreSigned}
 use Rattle.thr_text.specs.Slots.{is_one_of, is_a_name, choice_words, absent_word, can_stand, slots_behind}
@@ -189,3 +190,31 @@ module _ (entries : List Entry) (locals : List (List ℕ)) (few : length entries
 
   word_told : (s : Slot) (slots : List Slot) (ws : List Word) → TakesOne s → ((rest : List Word) → Fills slots rest → Told slots rest) → OneWord s ws (Fills slots) → Told (s ∷ slots) ws
   word_told s slots ws one more o = subst (Told (s ∷ slots)) (sym o.3) (one_told s slots o.0 o.1 one o.2 (more o.1 o.4))
+
+  term_told : (t : Term) → IsTerm t → (slots : List Slot) (rest : List Word) → Told slots rest → Told (Expression ∷ slots) (term_words t ++ rest)
+  term_told t is slots rest more h good =
+      let hs = of_line_append (term_words t) rest h in
+      let goods = good_append entries locals (term_placed t) (placed slots rest) (subst (AreGood entries locals) (placed_term t is slots rest) good) in
+      let own : Tells (scope_of (keys_of entries) locals) (expression_in (scope_of (keys_of entries) locals) (Some (piece_of (scope_of (keys_of entries) locals) t))) (term_words t) =
+        subst (λ (e : Expr). Tells (scope_of (keys_of entries) locals) e (term_words t)) (sym (piece_expression (scope_of (keys_of entries) locals) t)) (term_tells entries locals few few_locals t is hs.0 goods.0) in
+      subst (λ (ps : List Piece). TellsFrom (scope_of (keys_of entries) locals) (Expression ∷ slots) ps (term_words t ++ rest))
+      (sym (term_first (scope_of (keys_of entries) locals) t is rest))
+      (tells_next (scope_of (keys_of entries) locals) Expression slots (piece_of (scope_of (keys_of entries) locals) t) (pieces_of (scope_of (keys_of entries) locals) rest) (term_words t) rest
+      (expression_tells (scope_of (keys_of entries) locals) (piece_of (scope_of (keys_of entries) locals) t) (term_words t) own) (more hs.1 goods.1))
+
+  pub slots_told : (slots : List Slot) → AreOuter slots → (ws : List Word) → Fills slots ws → Told slots ws
+  slots_told [] outer ws f = subst (Told []) (sym f) (λ h good. no_slots (scope_of (keys_of entries) locals))
+  slots_told (Exception ∷ slots) outer ws f = absurd outer
+  slots_told (Expression ∷ slots) outer ws f = subst (Told (Expression ∷ slots)) (sym f.3) (term_told f.0 f.2 slots f.1 (slots_told slots outer f.1 f.4))
+  slots_told (Receiver ∷ slots) outer ws f = elim f [
+    | inl e ↦ subst (λ (xs : List Slot). Told (Receiver ∷ xs) ws) (sym e.1) (subst (Told (Receiver ∷ [])) (sym e.0) (λ h good. no_receiver (scope_of (keys_of entries) locals)))
+    | inr o ↦ word_told Receiver slots ws tt (slots_told slots outer) o
+  ]
+  slots_told (Number ∷ slots) outer ws f = word_told Number slots ws tt (slots_told slots outer) f
+  slots_told (Fixed c ∷ slots) outer ws f = word_told (Fixed c) slots ws tt (slots_told slots outer) f
+  slots_told (Declared k ∷ slots) outer ws f = word_told (Declared k) slots ws tt (slots_told slots outer) f
+  slots_told (Parameter ∷ slots) outer ws f = word_told Parameter slots ws tt (slots_told slots outer) f
+  slots_told (Local ∷ slots) outer ws f = word_told Local slots ws tt (slots_told slots outer) f
+  slots_told (Object k ∷ slots) outer ws f = word_told (Object k) slots ws tt (slots_told slots outer) f
+  slots_told (ObjectOr k ∷ slots) outer ws f = word_told (ObjectOr k) slots ws tt (slots_told slots outer) f
+  slots_told (Variable ∷ slots) outer ws f = word_told Variable slots ws tt (slots_told slots outer) f
