@@ -28,7 +28,8 @@ pub struct Context {
     pub has_limit: bool,
 }
 
-fn pass_locals(alloc: Global, locals: &mut Items<Name>, line: &Line) -> Result<(), ParseFault>
+/// Goes past a line with the parameter and the locals in force.
+pub fn pass_locals(alloc: Global, locals: &mut Items<Name>, line: &Line) -> Result<(), ParseFault>
     ensures ok { OnOk result (locals.new ≡ locals_below locals.old line.now.1) }
     ensures fault { IfErr result (λ f. f ≡ ParseFault.NoMemory) }
 {

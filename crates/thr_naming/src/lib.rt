@@ -10,5 +10,8 @@ mod table;
 #[cfg(test)]
 mod tests;
 
+pub use context::pass_locals;
 pub use judge::judge_lines;
+pub use places::rest;
+pub use sense::is_among;
 pub use table::Table;
