@@ -1,0 +1,2 @@
+pub mod NamesFaultless
+pub mod NamesRenumbered

@@ -1,0 +1,2 @@
+//! The script that a text is read as.
+#![tactic(auto)]
