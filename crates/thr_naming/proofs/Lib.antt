@@ -7,3 +7,4 @@ pub mod NameLaws
 pub mod Walks
 pub mod FaultLaws
 pub mod EntryLaws
+pub mod MisnamedLaws

@@ -4,6 +4,7 @@
 mod brought;
 mod context;
 mod judge;
+pub mod laws;
 mod places;
 mod sense;
 mod table;

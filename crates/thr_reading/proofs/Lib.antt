@@ -7,3 +7,5 @@ pub mod ReadLaws
 pub mod OneScript
 pub mod WrittenLines
 pub mod CanonLaws
+pub mod NamesFaultless
+pub mod NamesRenumbered

@@ -1,4 +1,4 @@
--- Lines of a script whose names keep the rules.
+-- What a text without faults of names says of each of its lines.
 use Rattle.std.specs.Prelude.{◌≡◌, ℕ, List, [], ◌∷◌, None}
 use Rattle.thr_text.specs.declared.word.Word.{Word}
 use Rattle.thr_text.specs.Lexing.{AreOfLine}
@@ -22,3 +22,8 @@ AreScopes names locals (l ∷ ls) = IsScope (scope_of names (locals_below locals
 abbrev pub HaveGoodWords : List (List Word) → Type 0
 HaveGoodWords [] = Unit {0}
 HaveGoodWords (l ∷ ls) = ((l ≡ [] → ⊥) × (form_fault l ≡ None) × AreOfLine l) × HaveGoodWords ls
+
+-- Each line that has words has a form.
+abbrev pub HaveNoFormFault : List (List Word) → Type 0
+HaveNoFormFault [] = Unit {0}
+HaveNoFormFault (l ∷ ls) = (form_fault l ≡ None) × HaveNoFormFault ls
