@@ -1,3 +1,5 @@
 pub mod Fixed
 pub mod Plays
 pub mod Short
+pub mod BuiltLines
+pub mod BuiltScripts

@@ -1,13 +1,14 @@
 //! Laws on histories.
 
-ghost use Rattle.std.specs.Prelude.{◌≡◌, ◌+◌, ◌≤◌, ℕ, ℤ, List, length, Some};
+ghost use Rattle.std.specs.Prelude.{◌≡◌, ◌+◌, ◌≤◌, ℕ, ℤ, List, length, Some, None};
 ghost use Rattle.thr_values.specs.declared.event.Event.{Event};
 ghost use Rattle.thr_values.specs.declared.event.Stop.{Stop};
 ghost use Rattle.thr_syntax.specs.declared.tree.Script.{Script};
 ghost use Rattle.thr_values.specs.declared.event.Stop.TheVariants as stops;
 ghost use Rattle.thr_values.specs.declared.history.Entry.{Entry};
 ghost use Rattle.thr_model.specs.Machine.{State};
-ghost use Rattle.thr_model.specs.Built.{saying_script, AreBuiltLines};
+ghost use Rattle.thr_text.specs.Reading.{Formed};
+ghost use Rattle.thr_model.specs.Built.{saying_script, first_unbuilt, IsBuilt, AreBuiltLines};
 ghost use Rattle.thr_model.specs.Histories.{History, StopsWith, Legal, stop_at};
 ghost use Rattle.thr_model.specs.Play.{Past, past_of, play};
 
@@ -29,4 +30,12 @@ pub fn short_histories_finish()
 /// The lines of such a history are of three kinds.
 pub fn short_histories_have_built_lines()
     ensures { (parameter : List ℕ) (numbers : List ℤ) (n : ℕ) (state : State) (events : List Event) (entries : List Entry) (turns : ℕ) → History (saying_script parameter numbers) n state events entries turns → AreBuiltLines entries }
+{}
+
+/// A script that keeps the rules and whose lines are all built says numbers, at most 19,997 of them. Any script that says
+/// numbers has built lines alone.
+pub fn built_scripts_say_numbers()
+    ensures says { (s : Script) → Formed s → first_unbuilt s ≡ None → IsBuilt s }
+    ensures few { (s : Script) (parameter : List ℕ) (numbers : List ℤ) → Formed s → s ≡ saying_script parameter numbers → length numbers + 3 ≤ 20000 }
+    ensures built { (s : Script) → IsBuilt s → first_unbuilt s ≡ None }
 {}
