@@ -31,7 +31,7 @@ use Rattle.thr_reading.proofs.OneScript.{tree_lines, formed_words, formed_scopes
 use Rattle.thr_reading.proofs.ReadLaws.{words_numbered}
 use Rattle.thr_reading.proofs.WrittenLines.{ArePlain, ended, lines_again}
 use Rattle.thr_resolving.proofs.AgainLines.{line_of_line, line_texts}
-use Rattle.thr_reading.proofs.Stubs.{own_of_names}
+use Rattle.thr_reading.proofs.NamesRenumbered.{names_are_short}
 use Rattle.thr_reading.proofs.LocalsLaws.{same_locals}
 
 abbrev Lines : Type 0
@@ -177,7 +177,7 @@ short_text s h =
     let numbered = numbered_lines 2 (own_lines s) in
     let n : length (lines (canon s)) ≡ length (header ∷ written own) = ap length (canon_lines s h) in
     let m : length own ≡ length (own_lines s) = sym (length-map own (map word_of)) ∙ ap length (own_spelled s h) in
-    let short : length (own_lines s) + 2 ≤ 20001 = (own_of_names (length (own_lines s) + 2) numbered h.limits).0 in
+    let short : length (own_lines s) + 2 ≤ 20001 = (names_are_short (length (own_lines s) + 2) numbered h.limits).0 in
     omega (arith, n, m, short, one_more header (written own), length-map own (join_with_byte 32))
 
 pub canon_again : (s : Script) → Formed s → Reads (canon s) s

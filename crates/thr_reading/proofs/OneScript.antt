@@ -35,7 +35,8 @@ use Rattle.thr_reading.proofs.OwnLaws.{items_own, item_own, no_header, some_word
 use Rattle.thr_reading.proofs.ReadLaws.{words_numbered, entry_names}
 use Rattle.thr_blocks.proofs.TreesNest.{trees_nest}
 use Rattle.thr_resolving.proofs.AgainLines.{line_resolved, line_shape}
-use Rattle.thr_reading.proofs.Stubs.{HaveSomeForm, names_are_scopes, own_of_names}
+use Rattle.thr_reading.proofs.NamesRenumbered.{names_are_short}
+use Rattle.thr_reading.proofs.Stubs.{HaveSomeForm, names_are_scopes}
 use Rattle.thr_reading.proofs.RunningLaws.{running_is_item}
 use Rattle.thr_reading.proofs.LocalsLaws.{same_locals}
 
@@ -156,7 +157,7 @@ pub formed_scopes : (s : Script) → Formed s → AreScopes s.names [] (own_line
 formed_scopes s h =
     let numbered = numbered_lines 2 (own_lines s) in
     let same : words_in numbered ≡ own_lines s = words_numbered 2 (own_lines s) in
-    let own = own_of_names (length (own_lines s) + 2) numbered h.limits in
+    let own = names_are_short (length (own_lines s) + 2) numbered h.limits in
     let scopes : AreScopes (keys_of (entries_of (words_in numbered))) [] (words_in numbered) = names_are_scopes (length (own_lines s) + 2) numbered (subst HaveSomeForm (sym same) (have_some_form s h)) own.1 in
     let names : keys_of (entries_of (own_lines s)) ≡ s.names = entry_names (own_lines s) ∙ sym h.names in
     subst (λ (ns : List (List ℕ)). AreScopes ns [] (own_lines s)) names (subst (λ (ls : Lines). AreScopes (keys_of (entries_of ls)) [] ls) same scopes)
@@ -164,7 +165,7 @@ formed_scopes s h =
 pub formed_resolved : (s : Script) → Formed s → resolved_lines s.names [] (own_lines s) ≡ tree_lines s
 formed_resolved s h =
     let numbered = numbered_lines 2 (own_lines s) in
-    let own = own_of_names (length (own_lines s) + 2) numbered h.limits in
+    let own = names_are_short (length (own_lines s) + 2) numbered h.limits in
     let same : words_in numbered ≡ own_lines s = words_numbered 2 (own_lines s) in
     let range : AreInRange (own_lines s) = subst AreInRange same (all_in_range (words_in numbered) nothing_above numbered (first_nil _ _ own.1)) in
     let spelled : texts_words (spelled_lines s.names [] (tree_lines s)) ≡ own_lines s = own_spelled s h in

@@ -31,7 +31,9 @@ use Rattle.thr_reading.specs.Running.{locals_after_form, spelled_lines}
 use Rattle.thr_reading.specs.Naming.{AreFaultless, HaveGoodWords}
 use Rattle.thr_reading.proofs.LineWords.{AreGood, first_nil, second_nil, good_lines, fewer_lines}
 use Rattle.thr_blocks.proofs.TreesNest.{trees_nest}
-use Rattle.thr_reading.proofs.Stubs.{names_are_faultless, own_renumbered, blocks_renumbered, short_names, own_of_names, resolved_words, resolved_numbers, resolved_shape, resolved_own}
+use Rattle.thr_resolving.proofs.LineWords.{faultless_tells}
+use Rattle.thr_reading.proofs.NamesFaultless.{names_are_faultless}
+use Rattle.thr_reading.proofs.NamesRenumbered.{own_renumbered, blocks_renumbered, short_names, names_are_short}
 use Rattle.thr_reading.proofs.RunningLaws.{running_is_item}
 use Rattle.thr_reading.proofs.LocalsLaws.{same_locals}
 
@@ -48,8 +50,8 @@ locals_of_line : (entries : List Entry) (locals : List (List ℕ)) (l : List Wor
 locals_of_line entries locals l h above is =
     let scope = scope_of (keys_of entries) locals in
     let f = resolved scope l in
-    let same : map word_of (form_words scope f) ≡ l = resolved_words entries locals l h in
-    sym (same_locals scope above f (resolved_own entries locals l h) (ap form_fault same ∙ h.form)) ∙ ap (locals_below above) same ∙ is
+    let same : map word_of (form_words scope f) ≡ l = (faultless_tells entries locals l h).words in
+    sym (same_locals scope above f ((faultless_tells entries locals l h).own) (ap form_fault same ∙ h.form)) ∙ ap (locals_below above) same ∙ is
 
 spelled_again : (entries : List Entry) (locals : List (List ℕ)) (ls : Lines) → AreFaultless entries locals ls → texts_words (spelled_lines (keys_of entries) locals (resolved_lines (keys_of entries) locals ls)) ≡ ls
 unfolding spelled_lines resolved_lines
@@ -59,7 +61,7 @@ spelled_again entries locals (l ∷ ls) h =
     let f = resolved (scope_of (keys_of entries) below) l in
     let same : locals_after_form locals f ≡ below = locals_of_line entries below l h.0 locals refl in
     ap (λ (k : List (List ℕ)). map word_of (form_words (scope_of (keys_of entries) k) f) ∷ texts_words (spelled_lines (keys_of entries) k (resolved_lines (keys_of entries) below ls))) same
-    ∙ ap (λ (x : List Word). x ∷ texts_words (spelled_lines (keys_of entries) below (resolved_lines (keys_of entries) below ls))) (resolved_words entries below l h.0)
+    ∙ ap (λ (x : List Word). x ∷ texts_words (spelled_lines (keys_of entries) below (resolved_lines (keys_of entries) below ls))) ((faultless_tells entries below l h.0).words)
     ∙ ap (λ (xs : Lines). l ∷ xs) (spelled_again entries below ls h.1)
 
 shapes_again : (entries : List Entry) (locals : List (List ℕ)) (ls : List Line) → AreFaultless entries locals (words_in ls) → map form_shape (resolved_lines (keys_of entries) locals (words_in ls)) ≡ map (λ l. shape_of_line l.1) ls
@@ -67,7 +69,7 @@ unfolding resolved_lines
 shapes_again entries locals [] h = refl
 shapes_again entries locals (l ∷ ls) h =
     let below = locals_below locals l.1 in
-    ap (λ x. x ∷ map form_shape (resolved_lines (keys_of entries) below (words_in ls))) (resolved_shape entries below l.1 h.0)
+    ap (λ x. x ∷ map form_shape (resolved_lines (keys_of entries) below (words_in ls))) ((faultless_tells entries below l.1 h.0).shape)
     ∙ ap (λ xs. shape_of_line l.1 ∷ xs) (shapes_again entries below ls h.1)
 
 numbers_fit : (entries : List Entry) (locals : List (List ℕ)) (ls : Lines) → AreFaultless entries locals ls → HaveNumbers (resolved_lines (keys_of entries) locals ls)
@@ -114,7 +116,7 @@ unfolding resolved_lines
 all_own entries locals [] h = refl
 all_own entries locals (l ∷ ls) h =
     let below = locals_below locals l in
-    rw (own_by (resolved (scope_of (keys_of entries) below) l) (resolved_own entries below l h.0)) (all_own entries below ls h.1)
+    rw (own_by (resolved (scope_of (keys_of entries) below) l) ((faultless_tells entries below l h.0).own)) (all_own entries below ls h.1)
 
 -- ---- lines that are numbered anew
 
@@ -142,7 +144,7 @@ kept_forms bytes = resolved_lines (keys_of (kept_entries bytes)) [] (kept_words 
 
 lines_faultless : (bytes : List ℕ) → AreFaultfree bytes → AreFaultless (kept_entries bytes) [] (kept_words bytes)
 lines_faultless bytes h =
-    names_are_faultless (end_of bytes) (script_lines bytes) (good_lines 1 false (lines bytes) h.scan).words (own_of_names (end_of bytes) (script_lines bytes) h.names).1
+    names_are_faultless (end_of bytes) (script_lines bytes) (good_lines 1 false (lines bytes) h.scan).words (names_are_short (end_of bytes) (script_lines bytes) h.names).1
 
 pub forms_nest : (bytes : List ℕ) → AreFaultfree bytes → Nest [] (map form_shape (kept_forms bytes))
 forms_nest bytes h =
@@ -175,7 +177,7 @@ formed_again bytes items h is =
     let s = script_of bytes items in
     let same : own_lines s ≡ kept_words bytes = words_again bytes items h is in
     let renumbered : kept_words bytes ≡ words_in (numbered_lines 2 (own_lines s)) = sym same ∙ sym (words_numbered 2 (own_lines s)) in
-    let names = own_of_names (end_of bytes) (script_lines bytes) h.names in
+    let names = names_are_short (end_of bytes) (script_lines bytes) h.names in
     let count : length (own_lines s) ≡ length (script_lines bytes) = ap length same ∙ length-map (script_lines bytes) (λ l. l.1) in
     record {
       names = entry_names (kept_words bytes) ∙ ap (λ (ls : Lines). builtin_names ++ map (λ e. e.0) (declarations ls)) (sym same);
@@ -192,7 +194,7 @@ reads_script bytes items h is = record {
   plain = h.scan;
   words = sym (words_again bytes items h is);
   formed = formed_again bytes items h is;
-  short = (own_of_names (end_of bytes) (script_lines bytes) h.names).0;
+  short = (names_are_short (end_of bytes) (script_lines bytes) h.names).0;
 }
 
 -- ---- a text that is read has no fault
@@ -200,7 +202,7 @@ reads_script bytes items h is = record {
 pub read_faultfree : (bytes : List ℕ) (s : Script) → Reads bytes s → AreFaultfree bytes
 read_faultfree bytes s r =
     let renumbered : words_in (numbered_lines 2 (own_lines s)) ≡ words_in (script_lines bytes) = words_numbered 2 (own_lines s) ∙ sym r.words in
-    let own = own_of_names (length (own_lines s) + 2) (numbered_lines 2 (own_lines s)) r.formed.limits in
+    let own = names_are_short (length (own_lines s) + 2) (numbered_lines 2 (own_lines s)) r.formed.limits in
     record {
       scan = r.plain;
       blocks = blocks_renumbered (length (own_lines s) + 2) (end_of bytes) [] (numbered_lines 2 (own_lines s)) (script_lines bytes) renumbered r.formed.blocks;

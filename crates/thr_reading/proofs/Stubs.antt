@@ -22,9 +22,6 @@ use Rattle.thr_resolving.specs.Scopes.{IsScope, IsFaultless}
 use Rattle.thr_reading.specs.Running.{locals_after_form, spelled_lines}
 use Rattle.thr_reading.specs.Naming.{AreFaultless, AreScopes, HaveGoodWords}
 
-pub names_are_faultless : (end : ℕ) (lines : List Line) → HaveGoodWords (words_in lines) → own_faults end lines ≡ [] → AreFaultless (entries_of (words_in lines)) [] (words_in lines)
-names_are_faultless end lines h e = ?
-
 abbrev pub HaveSomeForm : List (List Word) → Type 0
 HaveSomeForm [] = Unit {0}
 HaveSomeForm (l ∷ ls) = ((l ≡ [] → ⊥) × (form_fault l ≡ None)) × HaveSomeForm ls
@@ -32,29 +29,5 @@ HaveSomeForm (l ∷ ls) = ((l ≡ [] → ⊥) × (form_fault l ≡ None)) × Hav
 pub names_are_scopes : (end : ℕ) (lines : List Line) → HaveSomeForm (words_in lines) → own_faults end lines ≡ [] → AreScopes (keys_of (entries_of (words_in lines))) [] (words_in lines)
 names_are_scopes end lines h e = ?
 
-pub own_renumbered : (end other : ℕ) (lines more : List Line) → words_in lines ≡ words_in more → own_faults end lines ≡ [] → own_faults other more ≡ []
-own_renumbered end other lines more is e = ?
-
-pub blocks_renumbered : (end other : ℕ) (bs : List Block) (lines more : List Line) → words_in lines ≡ words_in more → block_faults end bs lines ≡ [] → block_faults other bs more ≡ []
-blocks_renumbered end other bs lines more is e = ?
-
-pub short_names : (end : ℕ) (lines : List Line) → end ≤ 20001 → own_faults end lines ≡ [] → name_faults end lines ≡ []
-short_names end lines h e = ?
-
-pub own_of_names : (end : ℕ) (lines : List Line) → name_faults end lines ≡ [] → (end ≤ 20001) × (own_faults end lines ≡ [])
-own_of_names end lines e = ?
-
 -- ---- the laws of resolved lines
-
-pub resolved_words : (entries : List Entry) (locals : List (List ℕ)) (line : List Word) → IsFaultless entries locals line → map word_of (form_words (scope_of (keys_of entries) locals) (resolved (scope_of (keys_of entries) locals) line)) ≡ line
-resolved_words entries locals line h = ?
-
-pub resolved_numbers : (entries : List Entry) (locals : List (List ℕ)) (line : List Word) → IsFaultless entries locals line → AreSigned (form_numbers (resolved (scope_of (keys_of entries) locals) line))
-resolved_numbers entries locals line h = ?
-
-pub resolved_shape : (entries : List Entry) (locals : List (List ℕ)) (line : List Word) → IsFaultless entries locals line → form_shape (resolved (scope_of (keys_of entries) locals) line) ≡ shape_of_line line
-resolved_shape entries locals line h = ?
-
-pub resolved_own : (entries : List Entry) (locals : List (List ℕ)) (line : List Word) → IsFaultless entries locals line → resolved (scope_of (keys_of entries) locals) line ≡ form.Header → ⊥
-resolved_own entries locals line h = ?
 
