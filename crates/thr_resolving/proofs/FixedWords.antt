@@ -5,11 +5,8 @@ use Rattle.std.specs.Str.{bytes_eq}
 use Rattle.std.proofs.lemmas.Bool.{cases_Bool}
 use Rattle.std.proofs.lemmas.Slice.Eq.{bytes_eq-Decides}
 use Rattle.thr_values.specs.Words.{policy_words, policy_word, kind_words, kind_word, inherit_words, inherit_word, cancel_words, cancel_word}
-use Rattle.thr_values.specs.declared.reply.Kind.{Kind}
 use Rattle.thr_values.specs.declared.reply.Kind.TheVariants.{Fast, Recursive, Nonrecursive}
-use Rattle.thr_values.specs.declared.scheduling.Policy.{Policy}
 use Rattle.thr_values.specs.declared.scheduling.Policy.TheVariants.{Fifo, Rr, Fg, Bg}
-use Rattle.thr_syntax.specs.declared.expr.Op.{Op}
 use Rattle.thr_syntax.specs.Spelling.{operator_word, interface_word}
 use Rattle.thr_text.specs.declared.word.Word.{Word}
 use Rattle.thr_text.specs.declared.word.Word.TheVariants.{Num, Name, Mark}

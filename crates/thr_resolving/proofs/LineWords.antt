@@ -1,7 +1,6 @@
 -- A line without faults, once its names are resolved, is spelled with just its words.
-use Rattle.std.proofs.Common.{◌≡◌, ℕ, ℤ, ◌<◌, ◌^◌, Bool, true, false, List, [], ◌∷◌, pos, negsuc, length, map, Option, Some, None, refl, sym, ap, subst, ◌∙◌, inl, inr, arith}
-use Rattle.std.specs.Prelude.{◌&&◌, ◌||◌, not, nat_lt, int_lt}
-use Rattle.std.specs.Ordering.{int_cmp, is_lt}
+use Rattle.std.proofs.Common.{◌≡◌, ℕ, ℤ, ◌<◌, ◌^◌, true, false, List, [], ◌∷◌, pos, negsuc, map, Option, Some, refl, sym, ap, subst, ◌∙◌, inl, inr, arith}
+use Rattle.std.specs.Prelude.{not}
 use Rattle.std.specs.Map.{keys_of}
 use Rattle.std.specs.Str.{bytes_eq}
 use Rattle.std.proofs.lemmas.Bool.Decides.{nat_tests}
@@ -15,14 +14,13 @@ use Rattle.thr_text.specs.declared.word.Word.{Word}
 use Rattle.thr_text.specs.declared.word.Word.TheVariants.{Num, Name, Mark}
 use Rattle.thr_text.specs.declared.head.Head.{Head}
 use Rattle.thr_text.specs.declared.head.Head.TheVariants as head
-use Rattle.thr_text.specs.declared.head.Slot.{Slot}
 use Rattle.thr_text.specs.Blocks.{shape_of, form_shape, shape_at, shape_of_line}
-use Rattle.thr_text.specs.Grammar.{Fills, HasForm}
+use Rattle.thr_text.specs.Grammar.{Fills}
 use Rattle.thr_text.specs.Heads.{head_word, all_heads, head_in, head_of}
 use Rattle.thr_text.specs.Lexing.{word_of, word_text, IsOfLine}
 use Rattle.thr_text.specs.NameFaults.{is_within, is_out_of_range}
 use Rattle.thr_text.specs.Numbers.{AreSigned, form_numbers}
-use Rattle.thr_text.specs.Slots.{text_of, head_at, head_of_line, call_slots, slots_of, is_a_name, is_a_number}
+use Rattle.thr_text.specs.Slots.{text_of, head_at, call_slots, slots_of, is_a_name, is_a_number}
 use Rattle.thr_text.specs.Tables.{Entry, placed, placed_after, placed_in}
 use Rattle.thr_text.proofs.FormLaws.{passes_form}
 use Rattle.thr_text.proofs.WordTables.{chosen}
@@ -35,7 +33,7 @@ use Rattle.thr_resolving.proofs.NumberTables.{numbers_of, numbers_same}
 use Rattle.thr_resolving.proofs.Parts.{form_head, form_values, words_in_slots, AreIn}
 use Rattle.thr_resolving.proofs.PieceLaws.{name_no_operator, raw_first}
 use Rattle.thr_resolving.proofs.PlacedWords.{AreGood, good_words}
-use Rattle.thr_resolving.proofs.SlotLaws.{TellsFrom, AreOuter, slots_told}
+use Rattle.thr_resolving.proofs.SlotLaws.{AreOuter, slots_told}
 use Rattle.thr_resolving.proofs.TermWords.{cons_same}
 
 -- ---- the first word
@@ -132,10 +130,10 @@ form_tells scope h w ws vs is of_line sized words fit numbers =
     let same_values = form_values_of h vs fit sized in
     record {
       words =
-        ap (map word_of) (spelled scope (form_of h vs) own)
-        ∙ cons_same (word_of (head_word (form_head (form_of h vs)))) w (map word_of (words_in_slots scope (slots_of (form_head (form_of h vs))) (form_values (form_of h vs)))) ws
-        (ap (λ (x : Head). word_of (head_word x)) same_head ∙ ap word_of is ∙ word_again w of_line)
-        (ap (λ (x : Head). map word_of (words_in_slots scope (slots_of x) (form_values (form_of h vs)))) same_head ∙ ap (λ (xs : List Value). map word_of (words_in_slots scope (slots_of h) xs)) same_values ∙ words);
+          ap (map word_of) (spelled scope (form_of h vs) own)
+          ∙ cons_same (word_of (head_word (form_head (form_of h vs)))) w (map word_of (words_in_slots scope (slots_of (form_head (form_of h vs))) (form_values (form_of h vs)))) ws
+          (ap (λ (x : Head). word_of (head_word x)) same_head ∙ ap word_of is ∙ word_again w of_line)
+          (ap (λ (x : Head). map word_of (words_in_slots scope (slots_of x) (form_values (form_of h vs)))) same_head ∙ ap (λ (xs : List Value). map word_of (words_in_slots scope (slots_of h) xs)) same_values ∙ words);
       numbers = subst AreSigned (sym (numbers_same (form_of h vs) ∙ ap numbers_of same_values)) numbers;
       shape = shape_same (form_of h vs) own ∙ ap shape_of same_head;
       own = own;
@@ -152,18 +150,23 @@ line_tells scope h w ws e t =
       own = λ g. t.own (sym same ∙ g);
     }
 
-formed_tells : (entries : List Entry) (locals : List (List ℕ)) (h : Head) (w : Word) (ws : List Word) → head_at (text_of w) ≡ Some h → Fills (slots_of h) ws → IsFaultless entries locals (w ∷ ws) → LineTells (scope_of (keys_of entries) locals) (w ∷ ws)
-formed_tells entries locals h w ws e f k =
-    let good : AreGood entries locals (placed (slots_of h) ws) =
-      subst (AreGood entries locals) (ap (λ (o : Option Head). placed_after o ws) e) (good_words entries locals (placed_in (w ∷ ws)) k.declares k.declared k.suited) in
-    let told = slots_told entries locals k.few k.few_locals (slots_of h) (outer h) ws f k.of_line.1 good in
-    let sized = sized_line (scope_of (keys_of entries) locals) h ws f (subst (λ (o : Option Head). is_out_of_range o ws ≡ false) e k.range) in
-    line_tells (scope_of (keys_of entries) locals) h w ws e (
-      form_tells (scope_of (keys_of entries) locals) h w ws (values_in (scope_of (keys_of entries) locals) (slots_of h) (pieces_of (scope_of (keys_of entries) locals) ws)) (head_text w h e) k.of_line.0 sized told.words told.fit told.numbers
-    )
+module _ (entries : List Entry) (locals : List (List ℕ)) where
+  -- The names by which the lines are resolved.
+  abbrev here : Scope
+  here = scope_of (keys_of entries) locals
 
-pub faultless_tells : (entries : List Entry) (locals : List (List ℕ)) (line : List Word) → IsFaultless entries locals line → LineTells (scope_of (keys_of entries) locals) line
-faultless_tells entries locals [] k = absurd (k.some refl)
-faultless_tells entries locals (w ∷ ws) k =
-    let g = passes_form w ws k.form in
-    subst (LineTells (scope_of (keys_of entries) locals)) (sym g.3) (formed_tells entries locals g.2 g.0 g.1 g.4 g.5 (subst (IsFaultless entries locals) g.3 k))
+  formed_tells : (h : Head) (w : Word) (ws : List Word) → head_at (text_of w) ≡ Some h → Fills (slots_of h) ws → IsFaultless entries locals (w ∷ ws) → LineTells here (w ∷ ws)
+  formed_tells h w ws e f k =
+      let good : AreGood entries locals (placed (slots_of h) ws) =
+      subst (AreGood entries locals) (ap (λ (o : Option Head). placed_after o ws) e) (good_words entries locals (placed_in (w ∷ ws)) k.declares k.declared k.suited) in
+      let told = slots_told entries locals k.few k.few_locals (slots_of h) (outer h) ws f k.of_line.1 good in
+      let sized = sized_line here h ws f (subst (λ (o : Option Head). is_out_of_range o ws ≡ false) e k.range) in
+      line_tells here h w ws e (
+      form_tells here h w ws (values_in here (slots_of h) (pieces_of here ws)) (head_text w h e) k.of_line.0 sized told.words told.fit told.numbers
+      )
+
+  pub faultless_tells : (line : List Word) → IsFaultless entries locals line → LineTells here line
+  faultless_tells [] k = absurd (k.some refl)
+  faultless_tells (w ∷ ws) k =
+      let g = passes_form w ws k.form in
+      subst (LineTells here) (sym g.3) (formed_tells g.2 g.0 g.1 g.4 g.5 (subst (IsFaultless entries locals) g.3 k))

@@ -1,5 +1,5 @@
 -- The pieces of the words of a line: one for each expression, and one for each other word.
-use Rattle.std.proofs.Common.{◌≡◌, ℕ, Bool, true, false, List, [], ◌∷◌, ◌++◌, Some, refl, ap, ◌∙◌, append_assoc, inl, inr}
+use Rattle.std.proofs.Common.{◌≡◌, ℕ, true, false, List, [], ◌∷◌, ◌++◌, Some, refl, ap, ◌∙◌, append_assoc, inl, inr}
 use Rattle.std.specs.Prelude.{◌||◌, codes}
 use Rattle.std.specs.List.{list_any}
 use Rattle.thr_syntax.specs.Spelling.{Scope}
@@ -10,7 +10,7 @@ use Rattle.thr_text.specs.declared.head.Slot.TheVariants.{Exception}
 use Rattle.thr_text.specs.Names.{has_name_form, reserved_words, is_reserved, is_name}
 use Rattle.thr_text.specs.Slots.{is_one_of, is_a_name, is_a_number, binary_words, can_stand}
 use Rattle.thr_text.specs.Grammar.{Term, Atom, Negation, Operation, Status, Match, term_words, is_atom, IsTerm}
-use Rattle.thr_text.proofs.WordTables.{are_apart, either, apart, no_name, no_number, no_more}
+use Rattle.thr_text.proofs.WordTables.{either, apart, no_name, no_number, no_more}
 use Rattle.thr_resolving.specs.Resolving.{exception_in, operator_in, atom_in, expression_in, Piece, Raw, Made, operation, negation, status_asked, match_asked, with_word, pieces_of}
 
 -- ---- words that take no operands

@@ -1,20 +1,19 @@
 -- The names in the words of a line without faults are declared, and of the kinds that their places ask.
 use Rattle.std.proofs.Common.{◌≡◌, ℕ, Bool, true, false, List, [], ◌∷◌, ◌++◌, Option, Some, None, is_some, refl, sym, ap, ◌∙◌, append_assoc}
-use Rattle.std.specs.Prelude.{◌&&◌, ◌||◌, not, if◌then◌else◌}
+use Rattle.std.specs.Prelude.{◌&&◌, not, if◌then◌else◌}
 use Rattle.std.specs.List.{list_any, list_all}
 use Rattle.std.proofs.lemmas.Bool.{and_parts, or_parts}
 use Rattle.std.proofs.lemmas.List.Folds.{list_all-append}
 use Rattle.thr_text.specs.declared.word.Word.{Word}
-use Rattle.thr_text.specs.declared.word.Word.TheVariants.{Num, Name, Mark}
+use Rattle.thr_text.specs.declared.word.Word.TheVariants.{Name}
 use Rattle.thr_text.specs.declared.object.Object as kinds
-use Rattle.thr_text.specs.declared.object.Object.TheVariants as object
 use Rattle.thr_text.specs.declared.head.Slot.{Slot}
 use Rattle.thr_text.specs.declared.head.Slot.TheVariants.{Exception, Expression}
 use Rattle.thr_text.specs.Slots.{is_a_name, operands_of, slots_behind}
 use Rattle.thr_text.specs.Grammar.{Term, Atom, Negation, Operation, Status, Match, term_words, IsTerm}
 use Rattle.thr_text.specs.Lexing.{AreOfLine}
-use Rattle.thr_text.specs.NameFaults.{Sense, Own, Known, Unknown, sense_of_kind, sense_of, is_unknown, is_of_kind, is_own, refers, suits, is_undeclared, is_misused}
-use Rattle.thr_text.specs.Tables.{Placed, placed, Entry, entry_of, declared_at, declared_in_all, kind_in, is_among, is_declared}
+use Rattle.thr_text.specs.NameFaults.{Sense, Own, sense_of_kind, sense_of, is_unknown, is_of_kind, is_own, refers, suits, is_undeclared, is_misused}
+use Rattle.thr_text.specs.Tables.{Placed, placed, Entry, declared_at, declared_in_all, kind_in, is_among, is_declared}
 use Rattle.thr_text.proofs.FormLaws.{binary_opens, not_opens, status_opens, match_opens, atom_opens}
 
 -- ---- the words of an expression with their places
@@ -34,7 +33,6 @@ pub placed_one : (s : Slot) (w : Word) (slots : List Slot) (ws : List Word) → 
 unfolding placed
 placed_one s w slots ws e = ap (λ (xs : List Slot). (s, w) ∷ placed (xs ++ slots) ws) e
 
-
 pub placed_term : (t : Term) → IsTerm t → (slots : List Slot) (rest : List Word) → placed (Expression ∷ slots) (term_words t ++ rest) ≡ term_placed t ++ placed slots rest
 placed_term (Atom w) h slots rest = opened w [] slots rest (atom_opens w h)
 placed_term (Negation w t) h slots rest =
@@ -43,17 +41,17 @@ placed_term (Operation w t u) h slots rest =
     ap (λ (xs : List Word). placed (Expression ∷ slots) (w ∷ xs)) (append_assoc (term_words t) (term_words u) rest)
     ∙ opened w (Expression ∷ Expression ∷ []) slots (term_words t ++ (term_words u ++ rest)) (binary_opens w h.0)
     ∙ ap (λ (xs : List Placed). (Expression, w) ∷ xs) (
-        placed_term t h.1 (Expression ∷ slots) (term_words u ++ rest)
-        ∙ ap (λ (xs : List Placed). term_placed t ++ xs) (placed_term u h.2 slots rest)
-        ∙ sym (append_assoc (term_placed t) (term_placed u) (placed slots rest))
-      )
+    placed_term t h.1 (Expression ∷ slots) (term_words u ++ rest)
+    ∙ ap (λ (xs : List Placed). term_placed t ++ xs) (placed_term u h.2 slots rest)
+    ∙ sym (append_assoc (term_placed t) (term_placed u) (placed slots rest))
+    )
 placed_term (Status w x) h slots rest =
     opened w (Exception ∷ []) slots (x ∷ rest) (status_opens w h.0) ∙ ap (λ (xs : List Placed). (Expression, w) ∷ xs) (placed_one Exception x slots rest refl)
 placed_term (Match w x y) h slots rest =
     opened w (Exception ∷ Exception ∷ []) slots (x ∷ y ∷ rest) (match_opens w h.0)
     ∙ ap (λ (xs : List Placed). (Expression, w) ∷ xs) (
-        placed_one Exception x (Exception ∷ slots) (y ∷ rest) refl ∙ ap (λ (xs : List Placed). (Exception, x) ∷ xs) (placed_one Exception y slots rest refl)
-      )
+    placed_one Exception x (Exception ∷ slots) (y ∷ rest) refl ∙ ap (λ (xs : List Placed). (Exception, x) ∷ xs) (placed_one Exception y slots rest refl)
+    )
 
 -- ---- words without faults of names
 
@@ -71,7 +69,7 @@ pub good_words : (entries : List Entry) (locals : List (List ℕ)) (xs : List Pl
 good_words entries locals [] d u m = tt
 good_words entries locals (x ∷ xs) d u m =
     let ds = and_parts (list_all (λ e. is_declared entries e.0) (declared_at x.0 x.1)) (list_all (λ e. is_declared entries e.0) (declared_in_all xs))
-        (sym (list_all-append (λ e. is_declared entries e.0) (declared_at x.0 x.1) (declared_in_all xs)) ∙ d) in
+    (sym (list_all-append (λ e. is_declared entries e.0) (declared_at x.0 x.1) (declared_in_all xs)) ∙ d) in
     let us = or_parts (is_undeclared entries locals x) (list_any (is_undeclared entries locals) xs) u in
     let ms = or_parts (is_misused entries locals x) (list_any (is_misused entries locals) xs) m in
     (record { declares = ds.0; declared = us.0; suited = ms.0 }, good_words entries locals xs ds.1 us.1 ms.1)

@@ -1,9 +1,7 @@
 -- What is made of the words in the slots of a line is spelled with just these words.
-use Rattle.std.proofs.Common.{◌≡◌, ℕ, ℤ, ◌≤◌, Bool, true, false, List, [], ◌∷◌, ◌++◌, length, map, Option, Some, None, refl, sym, ap, subst, ◌∙◌, inl, inr}
-use Rattle.std.specs.Prelude.{◌⊎◌, ◌||◌, codes}
+use Rattle.std.proofs.Common.{◌≡◌, ℕ, ◌≤◌, true, false, List, [], ◌∷◌, ◌++◌, length, map, Option, Some, refl, sym, ap, subst, inl, inr}
 use Rattle.std.specs.Map.{keys_of}
 use Rattle.std.proofs.lemmas.Bool.{cases_Bool}
-use Rattle.thr_values.specs.Words.{policy_words, kind_words, inherit_words, cancel_words}
 use Rattle.thr_syntax.specs.Spelling.{Scope}
 use Rattle.thr_syntax.specs.declared.expr.Expr.{Expr}
 use Rattle.thr_text.specs.declared.word.Word.{Word}
@@ -18,16 +16,15 @@ use Rattle.thr_text.specs.Grammar.{Term, term_words, IsTerm, OneWord, Fills}
 use Rattle.thr_text.specs.Lexing.{word_of, IsOfLine, AreOfLine}
 use Rattle.thr_text.specs.Numbers.{AreSigned}
 use Rattle.thr_text.specs.Slots.{is_one_of, is_a_name, choice_words, absent_word, can_stand, slots_behind}
-use Rattle.thr_text.specs.Tables.{Placed, placed, Entry}
+use Rattle.thr_text.specs.Tables.{placed, Entry}
 use Rattle.thr_text.proofs.WordTables.{are_apart, apart}
 use Rattle.thr_resolving.specs.Resolving.{Piece, Raw, pieces_of, expression_in, chosen_in, value_in, values_in, scope_of}
 use Rattle.thr_resolving.specs.declared.value.Value.{Value}
-use Rattle.thr_resolving.specs.declared.value.Value.TheVariants as value
 use Rattle.thr_resolving.proofs.FixedWords.{word_again, is_text, text_again, policy_again, kind_again, interface_again, inherit_again, cancel_again}
 use Rattle.thr_resolving.proofs.NameWords.{or_first, variable_again, object_again, declared_again, receiver_again}
 use Rattle.thr_resolving.proofs.NumberTables.{value_numbers, numbers_of, signed_append}
 use Rattle.thr_resolving.proofs.Parts.{words_at, words_in_slots, IsIn, AreIn}
-use Rattle.thr_resolving.proofs.PieceLaws.{operator_words, name_no_operator, raw_first, term_expr, piece_of, piece_expression, term_first}
+use Rattle.thr_resolving.proofs.PieceLaws.{operator_words, name_no_operator, raw_first, piece_of, piece_expression, term_first}
 use Rattle.thr_resolving.proofs.PlacedWords.{term_placed, placed_one, placed_term, IsGood, AreGood, good_append, of_line_append}
 use Rattle.thr_resolving.proofs.TermWords.{append_same, Tells, term_tells}
 
@@ -75,32 +72,6 @@ unfolding value_in
 local_tells scope (Num n) can h = absurd cc
 local_tells scope (Name t) can h = record { words = one_word t (Name t) (word_again (Name t) h); fit = tt; numbers = tt }
 local_tells scope (Mark t) can h = absurd cc
-
-module _ (entries : List Entry) (locals : List (List ℕ)) (few : length entries ≤ 65536) (few_locals : length locals ≤ 16) where
-  object_or_tells : (k : kinds.Object) (w : Word) → can_stand (ObjectOr k) w ≡ true → IsOfLine w → IsGood entries locals (ObjectOr k) w
-      → TellsAt (scope_of (keys_of entries) locals) (ObjectOr k) (value_in (scope_of (keys_of entries) locals) (ObjectOr k) (one_raw w)) (w ∷ [])
-  unfolding value_in
-  object_or_tells k w can h good = elim (cases_Bool (is_text (absent_word k) w)) [
-    | inl absent ↦ rw absent record { words = one_word (absent_word k) w (text_again (absent_word k) w absent h); fit = tt; numbers = tt }
-    | inr other ↦
-        let name : is_a_name w ≡ true = or_first (is_a_name w) (is_text (absent_word k) w) can other in
-        rw other record { words = one_word _ w (object_again entries locals few few_locals k (ObjectOr k) w (λ sense. refl) refl name h good); fit = tt; numbers = tt }
-  ]
-
-  word_tells : (s : Slot) (w : Word) → TakesOne s → can_stand s w ≡ true → IsOfLine w → IsGood entries locals s w
-      → TellsAt (scope_of (keys_of entries) locals) s (value_in (scope_of (keys_of entries) locals) s (one_raw w)) (w ∷ [])
-  unfolding value_in
-  word_tells Number w one can h good = number_tells (scope_of (keys_of entries) locals) w can h
-  word_tells (Fixed c) w one can h good = choice_tells (scope_of (keys_of entries) locals) c w can h
-  word_tells (Declared k) w one can h good = record { words = one_word _ w (declared_again entries locals few few_locals k w can h good); fit = tt; numbers = tt }
-  word_tells Parameter w one can h good = parameter_tells (scope_of (keys_of entries) locals) w can h
-  word_tells Local w one can h good = local_tells (scope_of (keys_of entries) locals) w can h
-  word_tells (Object k) w one can h good = record { words = one_word _ w (object_again entries locals few few_locals k (Object k) w (λ sense. refl) refl can h good); fit = tt; numbers = tt }
-  word_tells (ObjectOr k) w one can h good = object_or_tells k w can h good
-  word_tells Variable w one can h good = record { words = one_word _ w (variable_again entries locals few few_locals Variable w refl can h good); fit = tt; numbers = tt }
-  word_tells Receiver w one can h good = record { words = one_word _ w (receiver_again entries locals few few_locals w can h good); fit = tt; numbers = tt }
-  word_tells Exception w one can h good = absurd one
-  word_tells Expression w one can h good = absurd one
 
 -- ---- no operator stands where one word fills the slot
 
@@ -176,17 +147,48 @@ AreOuter [] = Unit {0}
 AreOuter (Exception ∷ slots) = ⊥
 AreOuter (s ∷ slots) = AreOuter slots
 
+-- ---- the words of a line without faults
+
 module _ (entries : List Entry) (locals : List (List ℕ)) (few : length entries ≤ 65536) (few_locals : length locals ≤ 16) where
+  -- The names by which the lines are resolved.
+  abbrev here : Scope
+  here = scope_of (keys_of entries) locals
+
+  object_or_tells : (k : kinds.Object) (w : Word) → can_stand (ObjectOr k) w ≡ true → IsOfLine w → IsGood entries locals (ObjectOr k) w
+      → TellsAt here (ObjectOr k) (value_in here (ObjectOr k) (one_raw w)) (w ∷ [])
+  unfolding value_in
+  object_or_tells k w can h good = elim (cases_Bool (is_text (absent_word k) w)) [
+    | inl absent ↦ rw absent record { words = one_word (absent_word k) w (text_again (absent_word k) w absent h); fit = tt; numbers = tt }
+    | inr other ↦
+        let name : is_a_name w ≡ true = or_first (is_a_name w) (is_text (absent_word k) w) can other in
+        rw other record { words = one_word _ w (object_again entries locals few few_locals k (ObjectOr k) w (λ sense. refl) refl name h good); fit = tt; numbers = tt }
+  ]
+
+  word_tells : (s : Slot) (w : Word) → TakesOne s → can_stand s w ≡ true → IsOfLine w → IsGood entries locals s w
+      → TellsAt here s (value_in here s (one_raw w)) (w ∷ [])
+  unfolding value_in
+  word_tells Number w one can h good = number_tells here w can h
+  word_tells (Fixed c) w one can h good = choice_tells here c w can h
+  word_tells (Declared k) w one can h good = record { words = one_word _ w (declared_again entries locals few few_locals k w can h good); fit = tt; numbers = tt }
+  word_tells Parameter w one can h good = parameter_tells here w can h
+  word_tells Local w one can h good = local_tells here w can h
+  word_tells (Object k) w one can h good = record { words = one_word _ w (object_again entries locals few few_locals k (Object k) w (λ sense. refl) refl can h good); fit = tt; numbers = tt }
+  word_tells (ObjectOr k) w one can h good = object_or_tells k w can h good
+  word_tells Variable w one can h good = record { words = one_word _ w (variable_again entries locals few few_locals Variable w refl can h good); fit = tt; numbers = tt }
+  word_tells Receiver w one can h good = record { words = one_word _ w (receiver_again entries locals few few_locals w can h good); fit = tt; numbers = tt }
+  word_tells Exception w one can h good = absurd one
+  word_tells Expression w one can h good = absurd one
+
   -- What the words in these slots give, where the place of each is known.
   abbrev pub Told : List Slot → List Word → Type 0
-  Told slots ws = AreOfLine ws → AreGood entries locals (placed slots ws) → TellsFrom (scope_of (keys_of entries) locals) slots (pieces_of (scope_of (keys_of entries) locals) ws) ws
+  Told slots ws = AreOfLine ws → AreGood entries locals (placed slots ws) → TellsFrom here slots (pieces_of here ws) ws
 
   one_told : (s : Slot) (slots : List Slot) (w : Word) (rest : List Word) → TakesOne s → can_stand s w ≡ true → Told slots rest → Told (s ∷ slots) (w ∷ rest)
   one_told s slots w rest one can more h good =
       let goods : AreGood entries locals ((s, w) ∷ placed slots rest) = subst (AreGood entries locals) (placed_one s w slots rest (one_behind s w one)) good in
-      subst (λ (ps : List Piece). TellsFrom (scope_of (keys_of entries) locals) (s ∷ slots) ps (w ∷ rest))
-      (sym (raw_first (scope_of (keys_of entries) locals) w rest (no_operator s w one can)))
-      (tells_next (scope_of (keys_of entries) locals) s slots (Raw w) (pieces_of (scope_of (keys_of entries) locals) rest) (w ∷ []) rest (word_tells entries locals few few_locals s w one can h.0 goods.0) (more h.1 goods.1))
+      subst (λ (ps : List Piece). TellsFrom here (s ∷ slots) ps (w ∷ rest))
+      (sym (raw_first here w rest (no_operator s w one can)))
+      (tells_next here s slots (Raw w) (pieces_of here rest) (w ∷ []) rest (word_tells s w one can h.0 goods.0) (more h.1 goods.1))
 
   word_told : (s : Slot) (slots : List Slot) (ws : List Word) → TakesOne s → ((rest : List Word) → Fills slots rest → Told slots rest) → OneWord s ws (Fills slots) → Told (s ∷ slots) ws
   word_told s slots ws one more o = subst (Told (s ∷ slots)) (sym o.3) (one_told s slots o.0 o.1 one o.2 (more o.1 o.4))
@@ -195,19 +197,19 @@ module _ (entries : List Entry) (locals : List (List ℕ)) (few : length entries
   term_told t is slots rest more h good =
       let hs = of_line_append (term_words t) rest h in
       let goods = good_append entries locals (term_placed t) (placed slots rest) (subst (AreGood entries locals) (placed_term t is slots rest) good) in
-      let own : Tells (scope_of (keys_of entries) locals) (expression_in (scope_of (keys_of entries) locals) (Some (piece_of (scope_of (keys_of entries) locals) t))) (term_words t) =
-        subst (λ (e : Expr). Tells (scope_of (keys_of entries) locals) e (term_words t)) (sym (piece_expression (scope_of (keys_of entries) locals) t)) (term_tells entries locals few few_locals t is hs.0 goods.0) in
-      subst (λ (ps : List Piece). TellsFrom (scope_of (keys_of entries) locals) (Expression ∷ slots) ps (term_words t ++ rest))
-      (sym (term_first (scope_of (keys_of entries) locals) t is rest))
-      (tells_next (scope_of (keys_of entries) locals) Expression slots (piece_of (scope_of (keys_of entries) locals) t) (pieces_of (scope_of (keys_of entries) locals) rest) (term_words t) rest
-      (expression_tells (scope_of (keys_of entries) locals) (piece_of (scope_of (keys_of entries) locals) t) (term_words t) own) (more hs.1 goods.1))
+      let own : Tells here (expression_in here (Some (piece_of here t))) (term_words t) =
+      subst (λ (e : Expr). Tells here e (term_words t)) (sym (piece_expression here t)) (term_tells entries locals few few_locals t is hs.0 goods.0) in
+      subst (λ (ps : List Piece). TellsFrom here (Expression ∷ slots) ps (term_words t ++ rest))
+      (sym (term_first here t is rest))
+      (tells_next here Expression slots (piece_of here t) (pieces_of here rest) (term_words t) rest
+      (expression_tells here (piece_of here t) (term_words t) own) (more hs.1 goods.1))
 
   pub slots_told : (slots : List Slot) → AreOuter slots → (ws : List Word) → Fills slots ws → Told slots ws
-  slots_told [] outer ws f = subst (Told []) (sym f) (λ h good. no_slots (scope_of (keys_of entries) locals))
+  slots_told [] outer ws f = subst (Told []) (sym f) (λ h good. no_slots here)
   slots_told (Exception ∷ slots) outer ws f = absurd outer
   slots_told (Expression ∷ slots) outer ws f = subst (Told (Expression ∷ slots)) (sym f.3) (term_told f.0 f.2 slots f.1 (slots_told slots outer f.1 f.4))
   slots_told (Receiver ∷ slots) outer ws f = elim f [
-    | inl e ↦ subst (λ (xs : List Slot). Told (Receiver ∷ xs) ws) (sym e.1) (subst (Told (Receiver ∷ [])) (sym e.0) (λ h good. no_receiver (scope_of (keys_of entries) locals)))
+    | inl e ↦ subst (λ (xs : List Slot). Told (Receiver ∷ xs) ws) (sym e.1) (subst (Told (Receiver ∷ [])) (sym e.0) (λ h good. no_receiver here))
     | inr o ↦ word_told Receiver slots ws tt (slots_told slots outer) o
   ]
   slots_told (Number ∷ slots) outer ws f = word_told Number slots ws tt (slots_told slots outer) f
