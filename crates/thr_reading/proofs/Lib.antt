@@ -1,2 +1,5 @@
-pub mod NamesFaultless
 pub mod NamesRenumbered
+pub mod NamesFaultless
+pub mod NamesDistinct
+pub mod NamesStand
+pub mod NamesScopes
