@@ -29,11 +29,11 @@ or_right : (a b : Bool) → (a || b) ≡ false → b ≡ false
 or_right true b h = absurd cc
 or_right false b h = h
 
-nil_left : {X : Type 0} (xs ys : List X) → xs ++ ys ≡ [] → xs ≡ []
+pub nil_left : {X : Type 0} (xs ys : List X) → xs ++ ys ≡ [] → xs ≡ []
 nil_left [] ys h = refl
 nil_left (x ∷ xs) ys h = absurd cc
 
-nil_right : {X : Type 0} (xs ys : List X) → xs ++ ys ≡ [] → ys ≡ []
+pub nil_right : {X : Type 0} (xs ys : List X) → xs ++ ys ≡ [] → ys ≡ []
 nil_right [] ys h = h
 nil_right (x ∷ xs) ys h = absurd cc
 
@@ -44,7 +44,7 @@ none_of false false true b h = absurd cc
 none_of false false false true h = absurd cc
 none_of false false false false h = (refl, refl)
 
-none_at : (n : ℕ) (ns : List ℕ) → at_line n ns ≡ [] → ns ≡ []
+pub none_at : (n : ℕ) (ns : List ℕ) → at_line n ns ≡ [] → ns ≡ []
 none_at n [] h = refl
 none_at n (k ∷ ks) h = absurd cc
 
@@ -65,7 +65,7 @@ clean whole a words h =
 
 -- ---- its entry
 
-new_entry : (whole above : List Entry) (locals : List (List ℕ)) (ps : List Placed) (d : Entry) (ds : List Entry)
+pub new_entry : (whole above : List Entry) (locals : List (List ℕ)) (ps : List Placed) (d : Entry) (ds : List Entry)
     → list_any (λ x. is_again_word x.0 x.1 whole above locals) ps ≡ false → declared_in_all ps ≡ d ∷ ds → is_declared above d.0 ≡ false
 new_entry whole above locals [] d ds h e = absurd cc
 new_entry whole above locals ((Declared kind, Name text) ∷ ps) d ds h e =
@@ -95,7 +95,7 @@ one_by words None is =
     rw none (omega arith)
 one_by words (Some h) is = rw (declared_law words h is) (few_by _ _)
 
-one_entry : (words : List Word) → length (declared_in words) ≤ 1
+pub one_entry : (words : List Word) → length (declared_in words) ≤ 1
 one_entry words = one_by words (head_of_line words) refl
 
 noted_new : (table es : List Entry) → length es ≤ 1 → ((d : Entry) (ds : List Entry) → es ≡ d ∷ ds → is_declared table d.0 ≡ false) → noted table es ≡ table ++ es
@@ -141,7 +141,7 @@ few_lines whole a (l ∷ ls) h few =
 
 -- ---- the whole text
 
-last_is_there : (fs : List (ℕ × ℕ)) → with_last_line fs ≡ [] → ⊥
+pub last_is_there : (fs : List (ℕ × ℕ)) → with_last_line fs ≡ [] → ⊥
 unfolding with_last_line
 last_is_there [] h = absurd cc
 last_is_there (f ∷ fs) h = by _ h

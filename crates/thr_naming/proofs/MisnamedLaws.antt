@@ -6,6 +6,7 @@ use Rattle.thr_text.specs.declared.word.Word.{Word}
 use Rattle.thr_text.specs.Faults.{when, first_of}
 use Rattle.thr_text.specs.Blocks.{Line, at_line}
 use Rattle.thr_text.specs.NameFaults.{Above, above_next, nothing_above, name_misfits, has_main, lines_faults, with_last_line, words_in, own_faults, name_faults}
+use Rattle.thr_naming.proofs.EntryLaws.{nil_left, nil_right, none_at}
 use Rattle.thr_naming.specs.Misnamed.{AreWellNamed, above_after, IsFirstMisnamed, HasNoMain, IsBeforeLast, IsMisnamedInTime, IsTooLong}
 
 -- ---- lines that keep the rules
@@ -21,19 +22,13 @@ named_first whole a l ls e = rw (faults_step whole a l ls, e) refl
 misnamed_first : (whole : List (List Word)) (a : Above) (l : Line) (ls : List Line) (n : ℕ) (more : List ℕ) → name_misfits whole a l.1 ≡ n ∷ more → first_of (lines_faults whole a (l ∷ ls)) ≡ Some (l.0, n)
 misnamed_first whole a l ls n more e = rw (faults_step whole a l ls, e) refl
 
-none_left : {X : Type 0} (xs ys : List X) → xs ++ ys ≡ [] → (xs ≡ []) × (ys ≡ [])
-none_left [] ys e = (refl, e)
-none_left (x ∷ xs) ys e = absurd cc
-
-none_at : (n : ℕ) (ns : List ℕ) → at_line n ns ≡ [] → ns ≡ []
-none_at n [] e = refl
-none_at n (k ∷ ks) e = absurd cc
-
 pub lines_are_named : (whole : List (List Word)) (a : Above) (ls : List Line) → lines_faults whole a ls ≡ [] → AreWellNamed whole a (words_in ls)
 lines_are_named whole a [] e = tt
 lines_are_named whole a (l ∷ ls) e =
-    let parts = none_left (at_line l.0 (name_misfits whole a l.1)) (lines_faults whole (above_next a l.1) ls) (sym (faults_step whole a l ls) ∙ e) in
-    (none_at l.0 (name_misfits whole a l.1) parts.0, lines_are_named whole (above_next a l.1) ls parts.1)
+    let own = at_line l.0 (name_misfits whole a l.1) in
+    let below = lines_faults whole (above_next a l.1) ls in
+    let none : own ++ below ≡ [] = sym (faults_step whole a l ls) ∙ e in
+    (none_at l.0 (name_misfits whole a l.1) (nil_left own below none), lines_are_named whole (above_next a l.1) ls (nil_right own below none))
 
 pub named_lines_have_none : (whole : List (List Word)) (a : Above) (ls : List Line) → AreWellNamed whole a (words_in ls) → lines_faults whole a ls ≡ []
 unfolding lines_faults
@@ -52,8 +47,9 @@ main_is end false e = absurd cc
 -- the names keep the rules, and there is a `main`
 pub own_parts : (end : ℕ) (ls : List Line) → own_faults end ls ≡ [] → AreWellNamed (words_in ls) nothing_above (words_in ls) × (has_main (words_in ls) ≡ true)
 own_parts end ls e =
-    let parts = none_left (lines_faults (words_in ls) nothing_above ls) (no_main_at end (has_main (words_in ls))) e in
-    (lines_are_named (words_in ls) nothing_above ls parts.0, main_is end (has_main (words_in ls)) parts.1)
+    let own = lines_faults (words_in ls) nothing_above ls in
+    let last = no_main_at end (has_main (words_in ls)) in
+    (lines_are_named (words_in ls) nothing_above ls (nil_left own last e), main_is end (has_main (words_in ls)) (nil_right own last e))
 
 pub own_from_parts : (end : ℕ) (ls : List Line) → AreWellNamed (words_in ls) nothing_above (words_in ls) → has_main (words_in ls) ≡ true → own_faults end ls ≡ []
 own_from_parts end ls n m = rw (named_lines_have_none (words_in ls) nothing_above ls n, m) refl

@@ -35,12 +35,12 @@ pub record HasNoMain (end : ℕ) (lines : List Line) (f : ℕ × ℕ) : Type 0 w
 abbrev pub IsBeforeLast : ℕ × ℕ → Type 0
 IsBeforeLast f = (f.0 < 20001) ⊎ ((f.0 ≡ 20001) × (f.1 < 18))
 
--- The same of a line of a text that has more than 20,000 lines: its fault is the first only before that of line 20,001.
+-- In a text of more than 20,000 lines: the first line that doesn't keep the rules has its fault before F18 of line 20,001.
 pub record IsMisnamedInTime (lines : List Line) (f : ℕ × ℕ) : Type 0 where
   pub first : IsFirstMisnamed lines f
   pub before : IsBeforeLast f
 
--- No line of the text has such a fault before F18 of line 20,001.
+-- In such a text: there is no such line, so that F18 of line 20,001 comes first.
 pub record IsTooLong (lines : List Line) (f : ℕ × ℕ) : Type 0 where
   pub none : (g : ℕ × ℕ) → IsFirstMisnamed lines g → IsBeforeLast g → ⊥
   pub at : f ≡ (20001, 18)

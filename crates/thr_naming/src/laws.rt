@@ -11,16 +11,16 @@ ghost use Rattle.thr_naming.specs.Misnamed.{IsFirstMisnamed, HasNoMain, IsMisnam
 /// lines do and no routine is named `main`. In a longer text it is at a line exactly where that fault comes before F18 of line
 /// 20,001, and else it is the latter (docs/script.md, "Faults").
 pub fn first_misnamed_lines_are_told()
-    ensures says { (end : ℕ) (lines : List Line) (fault : ℕ × ℕ) → end ≤ 20001 → first_of (name_faults end lines) ≡ Some fault
-        → IsFirstMisnamed lines fault ⊎ HasNoMain end lines fault }
+    ensures says { (end : ℕ) (lines : List Line) (fault : ℕ × ℕ) → end ≤ 20001
+        → first_of (name_faults end lines) ≡ Some fault → IsFirstMisnamed lines fault ⊎ HasNoMain end lines fault }
     ensures comes { (end : ℕ) (lines : List Line) (fault : ℕ × ℕ) → end ≤ 20001 → IsFirstMisnamed lines fault
         → first_of (name_faults end lines) ≡ Some fault }
-    ensures comes_at_the_end { (end : ℕ) (lines : List Line) (fault : ℕ × ℕ) → end ≤ 20001 → HasNoMain end lines fault
-        → first_of (name_faults end lines) ≡ Some fault }
-    ensures says_too_long { (end : ℕ) (lines : List Line) (fault : ℕ × ℕ) → 20001 < end → first_of (name_faults end lines) ≡ Some fault
-        → IsMisnamedInTime lines fault ⊎ IsTooLong lines fault }
-    ensures comes_in_time { (end : ℕ) (lines : List Line) (fault : ℕ × ℕ) → 20001 < end → IsMisnamedInTime lines fault
-        → first_of (name_faults end lines) ≡ Some fault }
+    ensures comes_at_the_end { (end : ℕ) (lines : List Line) (fault : ℕ × ℕ) → end ≤ 20001
+        → HasNoMain end lines fault → first_of (name_faults end lines) ≡ Some fault }
+    ensures says_too_long { (end : ℕ) (lines : List Line) (fault : ℕ × ℕ) → 20001 < end
+        → first_of (name_faults end lines) ≡ Some fault → IsMisnamedInTime lines fault ⊎ IsTooLong lines fault }
+    ensures comes_in_time { (end : ℕ) (lines : List Line) (fault : ℕ × ℕ) → 20001 < end
+        → IsMisnamedInTime lines fault → first_of (name_faults end lines) ≡ Some fault }
     ensures comes_too_long { (end : ℕ) (lines : List Line) (fault : ℕ × ℕ) → 20001 < end → IsTooLong lines fault
         → first_of (name_faults end lines) ≡ Some fault }
 {}

@@ -1,4 +1,3 @@
-pub mod Stubs
 pub mod RunningLaws
 pub mod LocalsLaws
 pub mod LineWords
@@ -9,3 +8,6 @@ pub mod WrittenLines
 pub mod CanonLaws
 pub mod NamesFaultless
 pub mod NamesRenumbered
+pub mod NamesDistinct
+pub mod NamesStand
+pub mod NamesScopes

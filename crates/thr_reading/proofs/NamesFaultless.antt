@@ -14,7 +14,7 @@ use Rattle.thr_text.specs.Lexing.{AreOfLine}
 use Rattle.thr_text.specs.Slots.{form_fault, fault_after, head_at, text_of, head_of_line}
 use Rattle.thr_text.specs.Blocks.{Line, shape_of_line}
 use Rattle.thr_text.specs.Tables.{Entry, builtin_entry, placed_in, rest_of, kind_in, is_declared, entries_of, declarations, declared_in}
-use Rattle.thr_text.specs.NameFaults.{is_again_word, is_second, is_undeclared, is_misused, is_out_of_range, locals_below, depth_below, Above, above_next, nothing_above, passes_limit, name_misfits, words_in, own_faults, name_faults}
+use Rattle.thr_text.specs.NameFaults.{is_again_word, is_second, is_undeclared, is_misused, is_out_of_range, locals_below, depth_below, Above, above_next, nothing_above, passes_limit, name_misfits, words_in, own_faults}
 use Rattle.thr_naming.specs.Misnamed.{AreWellNamed}
 use Rattle.thr_naming.proofs.MisnamedLaws.{own_parts}
 use Rattle.thr_naming.proofs.EntryLaws
@@ -24,7 +24,7 @@ use Rattle.thr_reading.proofs.NamesRenumbered.{own_renumbered, short_names}
 
 -- ---- a line that keeps the rules for names and the limits
 
-neither : (a b : Bool) → (a || b) ≡ false → (a ≡ false) × (b ≡ false)
+pub neither : (a b : Bool) → (a || b) ≡ false → (a ≡ false) × (b ≡ false)
 neither true b h = absurd cc
 neither false b h = (refl, h)
 
@@ -109,9 +109,10 @@ faultless_line whole a l below is few none some form of_line =
 lines_are_faultless : (whole : List (List Word)) (a : Above) (ls : List (List Word)) → a.lines ++ ls ≡ whole → length (entries_of whole) ≤ 65536 → AreWellNamed whole a ls → HaveGoodWords ls
     → AreFaultless (entries_of whole) a.locals ls
 lines_are_faultless whole a [] is few named good = tt
-lines_are_faultless whole a (l ∷ ls) is few named good =
-    (faultless_line whole a l ls is few named.0 good.0.0 good.0.1 good.0.2,
-    lines_are_faultless whole (above_next a l) ls (append_assoc a.lines (l ∷ []) ls ∙ is) few named.1 good.1)
+lines_are_faultless whole a (l ∷ ls) is few named good = (
+  faultless_line whole a l ls is few named.0 good.0.0 good.0.1 good.0.2,
+  lines_are_faultless whole (above_next a l) ls (append_assoc a.lines (l ∷ []) ls ∙ is) few named.1 good.1,
+)
 
 -- ---- the text
 

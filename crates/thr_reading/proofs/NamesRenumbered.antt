@@ -1,13 +1,14 @@
 -- The faults of blocks, of names and of limits depend on the words of the lines alone.
-use Rattle.std.proofs.Common.{◌≡◌, ℕ, ◌<◌, ◌≤◌, Bool, true, false, List, [], ◌∷◌, ◌++◌, Option, Some, None, refl, ap, sym, ◌∙◌, subst, arith}
-use Rattle.std.specs.Prelude.{nat_le, if◌then◌else◌}
+use Rattle.std.proofs.Common.{◌≡◌, ℕ, ◌<◌, ◌≤◌, Bool, true, false, List, [], ◌∷◌, ◌++◌, refl, ap, sym, ◌∙◌, subst, arith}
+use Rattle.std.specs.Prelude.{nat_le}
 use Rattle.std.proofs.lemmas.Bool.Decides.{nat_tests}
 use Rattle.thr_text.specs.declared.word.Word.{Word}
 use Rattle.thr_text.specs.declared.block.Block.{Block}
 use Rattle.thr_text.specs.Faults.{when}
 use Rattle.thr_text.specs.Blocks.{Line, at_line, misfits, shape_of_line, mentions_this, blocks_below, is_open, block_faults}
-use Rattle.thr_text.specs.NameFaults.{nothing_above, has_main, with_last_line, words_in, own_faults, name_faults}
+use Rattle.thr_text.specs.NameFaults.{nothing_above, has_main, words_in, own_faults, name_faults}
 use Rattle.thr_naming.specs.Misnamed.{AreWellNamed}
+use Rattle.thr_naming.proofs.EntryLaws.{nil_left, nil_right, none_at, last_is_there}
 use Rattle.thr_naming.proofs.MisnamedLaws.{own_parts, own_from_parts, short_text, long_text}
 
 -- ---- names and limits
@@ -23,15 +24,6 @@ own_renumbered end other lines more same none =
 pub short_names : (end : ℕ) (lines : List Line) → end ≤ 20001 → own_faults end lines ≡ [] → name_faults end lines ≡ []
 short_names end lines le none = short_text end lines le ∙ none
 
-last_is_there : (fs : List (ℕ × ℕ)) → with_last_line fs ≡ [] → ⊥
-unfolding with_last_line
-last_is_there [] h = absurd cc
-last_is_there (f ∷ fs) h = by _ h
-  where
-    by : (b : Bool) → (if b then f ∷ with_last_line fs else (20001, 18) ∷ f ∷ fs) ≡ [] → ⊥
-    by true h = absurd cc
-    by false h = absurd cc
-
 pub names_are_short : (end : ℕ) (lines : List Line) → name_faults end lines ≡ [] → (end ≤ 20001) × (own_faults end lines ≡ [])
 names_are_short end lines none = by (nat_le end 20001) refl
   where
@@ -40,14 +32,6 @@ names_are_short end lines none = by (nat_le end 20001) refl
     by false is = let lt : 20001 < end = grind (arith, nat_tests, is) in absurd (last_is_there (own_faults end lines) (sym (long_text end lines lt) ∙ none))
 
 -- ---- blocks
-
-none_left : {X : Type 0} (xs ys : List X) → xs ++ ys ≡ [] → (xs ≡ []) × (ys ≡ [])
-none_left [] ys e = (refl, e)
-none_left (x ∷ xs) ys e = absurd cc
-
-none_at : (n : ℕ) (ns : List ℕ) → at_line n ns ≡ [] → ns ≡ []
-none_at n [] e = refl
-none_at n (k ∷ ks) e = absurd cc
 
 open_elsewhere : (end other : ℕ) (b : Bool) → at_line end (when b 8) ≡ [] → at_line other (when b 8) ≡ []
 open_elsewhere end other true e = absurd cc
@@ -59,12 +43,6 @@ first_word x y xs ys e = cc
 words_behind : {X : Type 0} (x y : X) (xs ys : List X) → x ∷ xs ≡ y ∷ ys → xs ≡ ys
 words_behind x y xs ys e = cc
 
--- a line's own faults, and those below it
-faults_step : (end : ℕ) (bs : List Block) (l : Line) (ls : List Line)
-    → block_faults end bs (l ∷ ls) ≡ at_line l.0 (misfits bs (shape_of_line l.1) (mentions_this l.1)) ++ block_faults end (blocks_below bs (shape_of_line l.1)) ls
-unfolding block_faults
-faults_step end bs l ls = refl
-
 pub blocks_renumbered : (end other : ℕ) (bs : List Block) (lines more : List Line) → words_in lines ≡ words_in more → block_faults end bs lines ≡ [] → block_faults other bs more ≡ []
 unfolding block_faults
 blocks_renumbered end other bs [] [] same none = open_elsewhere end other (is_open bs) none
@@ -74,9 +52,8 @@ blocks_renumbered end other bs (l ∷ ls) (m ∷ more) same none =
     let here : l.1 ≡ m.1 = first_word l.1 m.1 (words_in ls) (words_in more) same in
     let own : List Word → List ℕ = λ ws. misfits bs (shape_of_line ws) (mentions_this ws) in
     let below : List Word → List Block = λ ws. blocks_below bs (shape_of_line ws) in
-    let parts = none_left (at_line l.0 (own l.1)) (block_faults end (below l.1) ls) none in
-    let fine : own m.1 ≡ [] = ap own (sym here) ∙ none_at l.0 (own l.1) parts.0 in
+    let fine : own m.1 ≡ [] = ap own (sym here) ∙ none_at l.0 (own l.1) (nil_left (at_line l.0 (own l.1)) (block_faults end (below l.1) ls) none) in
     let rest : block_faults other (below m.1) more ≡ [] =
     ap (λ (ws : List Word). block_faults other (below ws) more) (sym here)
-    ∙ blocks_renumbered end other (below l.1) ls more (words_behind l.1 m.1 (words_in ls) (words_in more) same) parts.1 in
+    ∙ blocks_renumbered end other (below l.1) ls more (words_behind l.1 m.1 (words_in ls) (words_in more) same) (nil_right (at_line l.0 (own l.1)) (block_faults end (below l.1) ls) none) in
     ap (λ (ns : List ℕ). at_line m.0 ns ++ block_faults other (below m.1) more) fine ∙ rest

@@ -36,7 +36,9 @@ use Rattle.thr_reading.proofs.ReadLaws.{words_numbered, entry_names}
 use Rattle.thr_blocks.proofs.TreesNest.{trees_nest}
 use Rattle.thr_resolving.proofs.AgainLines.{line_resolved, line_shape}
 use Rattle.thr_reading.proofs.NamesRenumbered.{names_are_short}
-use Rattle.thr_reading.proofs.Stubs.{HaveSomeForm, names_are_scopes}
+use Rattle.thr_reading.proofs.NamesScopes.{names_are_scopes}
+use Rattle.thr_reading.proofs.NamesStand.{forms_have_no_fault}
+use Rattle.thr_reading.specs.Naming.{HaveNoFormFault}
 use Rattle.thr_reading.proofs.RunningLaws.{running_is_item}
 use Rattle.thr_reading.proofs.LocalsLaws.{same_locals}
 
@@ -136,29 +138,15 @@ resolved_again names locals (f ∷ fs) own numbers forms range scopes =
     ∙ ap (λ (g : Form). g ∷ resolved_lines names below rest) (line_resolved scope f good (no_header f p.0) numbers.0 forms.0 range.0)
     ∙ ap (λ (gs : List Form). f ∷ gs) (resolved_again names below fs p.1 numbers.1 forms.2 range.1 (subst (λ (k : List (List ℕ)). AreScopes names k rest) same scopes.1))
 
-some_form : (names locals : List (List ℕ)) (fs : List Form) → list_all is_own fs ≡ true → HaveForms (texts_words (spelled_lines names locals fs)) → HaveSomeForm (texts_words (spelled_lines names locals fs))
-unfolding spelled_lines
-some_form names locals [] own h = tt
-some_form names locals (f ∷ fs) own h =
-    let below = locals_after_form locals f in
-    let scope = scope_of names below in
-    let p = both (is_own f) (list_all is_own fs) own in
-    ((some_words scope f (no_header f p.0), h.0), some_form names below fs p.1 h.2)
-
 pub own_spelled : (s : Script) → Formed s → texts_words (spelled_lines s.names [] (tree_lines s)) ≡ own_lines s
 own_spelled s h = ap texts_words (formed_words s h)
-
-have_some_form : (s : Script) → Formed s → HaveSomeForm (own_lines s)
-have_some_form s h =
-    let spelled = own_spelled s h in
-    subst HaveSomeForm spelled (some_form s.names [] (tree_lines s) (items_own s.items) (subst HaveForms (sym spelled) h.forms))
 
 pub formed_scopes : (s : Script) → Formed s → AreScopes s.names [] (own_lines s)
 formed_scopes s h =
     let numbered = numbered_lines 2 (own_lines s) in
     let same : words_in numbered ≡ own_lines s = words_numbered 2 (own_lines s) in
     let own = names_are_short (length (own_lines s) + 2) numbered h.limits in
-    let scopes : AreScopes (keys_of (entries_of (words_in numbered))) [] (words_in numbered) = names_are_scopes (length (own_lines s) + 2) numbered (subst HaveSomeForm (sym same) (have_some_form s h)) own.1 in
+    let scopes : AreScopes (keys_of (entries_of (words_in numbered))) [] (words_in numbered) = names_are_scopes (length (own_lines s) + 2) numbered (subst HaveNoFormFault (sym same) (forms_have_no_fault (own_lines s) h.forms)) own.1 in
     let names : keys_of (entries_of (own_lines s)) ≡ s.names = entry_names (own_lines s) ∙ sym h.names in
     subst (λ (ns : List (List ℕ)). AreScopes ns [] (own_lines s)) names (subst (λ (ls : Lines). AreScopes (keys_of (entries_of ls)) [] ls) same scopes)
 

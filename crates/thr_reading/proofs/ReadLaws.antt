@@ -75,7 +75,7 @@ shapes_again entries locals (l ∷ ls) h =
 numbers_fit : (entries : List Entry) (locals : List (List ℕ)) (ls : Lines) → AreFaultless entries locals ls → HaveNumbers (resolved_lines (keys_of entries) locals ls)
 unfolding resolved_lines
 numbers_fit entries locals [] h = tt
-numbers_fit entries locals (l ∷ ls) h = (resolved_numbers entries (locals_below locals l) l h.0, numbers_fit entries (locals_below locals l) ls h.1)
+numbers_fit entries locals (l ∷ ls) h = ((faultless_tells entries (locals_below locals l) l h.0).numbers, numbers_fit entries (locals_below locals l) ls h.1)
 
 own_by : (f : Form) → (f ≡ form.Header → ⊥) → is_own f ≡ true
 own_by form.Header h = absurd (h refl)
