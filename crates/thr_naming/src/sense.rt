@@ -24,6 +24,7 @@ pub enum Sense {
     Unknown,
 }
 
+/// Whether the name is one of these.
 pub fn is_among(names: &[Name], name: &Name) -> bool
     ensures { result ≡ is_among names.now name.now }
 {

@@ -8,5 +8,7 @@ pub mod piece;
 mod pieces;
 pub mod resolve;
 mod scope;
+#[cfg(test)]
+mod tests;
 pub mod value;
 mod values;

@@ -40,6 +40,7 @@ impl<'a> Model for Pieces<'a> {
 }
 
 impl<'a> Pieces<'a> {
+    /// No pieces.
     pub fn new(alloc: Global) -> Pieces<'a>
         ensures { result ≡ [] }
     {
@@ -56,6 +57,7 @@ impl<'a> Pieces<'a> {
         self.stack.pop()
     }
 
+    /// Puts a piece before the others.
     fn push(&mut self, piece: Piece<'a>) -> Result<(), ParseFault>
         ensures ok { OnOk result (self.new ≡ piece_seen piece.entry ∷ self.old) }
         ensures fault { IfErr result (λ f. f ≡ ParseFault.NoMemory) }
@@ -76,6 +78,7 @@ pub fn word_or<'b>(piece: &'b Option<Piece<'b>>, zero: &'b Word) -> &'b Word
     }
 }
 
+/// The exception that a piece names.
 fn exception(names: &Names, piece: Option<Piece>) -> ExcRef
     ensures { result ≡ exception_in (scope_seen names.now) (word_in (maybe_piece piece.entry)) }
 {
@@ -83,6 +86,7 @@ fn exception(names: &Names, piece: Option<Piece>) -> ExcRef
     names.exception(word_or(&piece, &zero))
 }
 
+/// `self`, `err`, or a variable.
 fn named_atom(names: &Names, word: &Word) -> Expr
     ensures { result ≡ named_atom (scope_seen names.now) word.now }
 {
@@ -116,13 +120,8 @@ pub fn expression(names: &Names, piece: Option<Piece>) -> Expr
     }
 }
 
-/// The operator takes two operands.
-fn operate<'a>(
-    alloc: Global,
-    names: &Names,
-    word: &Word,
-    pieces: &mut Pieces<'a>,
-) -> Result<(), ParseFault>
+/// An operator takes its two operands.
+fn operate(alloc: Global, names: &Names, word: &Word, pieces: &mut Pieces) -> Result<(), ParseFault>
     ensures ok { OnOk result (pieces.new ≡ operation (scope_seen names.now) word.now pieces.old) }
     ensures fault { IfErr result (λ f. f ≡ ParseFault.NoMemory) }
 {
@@ -133,7 +132,8 @@ fn operate<'a>(
     pieces.push(Piece::Made(Expr::Two(operator(word), first, second)))
 }
 
-fn negate<'a>(alloc: Global, names: &Names, pieces: &mut Pieces<'a>) -> Result<(), ParseFault>
+/// `not` takes its operand.
+fn negate(alloc: Global, names: &Names, pieces: &mut Pieces) -> Result<(), ParseFault>
     ensures ok { OnOk result (pieces.new ≡ negation (scope_seen names.now) pieces.old) }
     ensures fault { IfErr result (λ f. f ≡ ParseFault.NoMemory) }
 {
@@ -142,7 +142,8 @@ fn negate<'a>(alloc: Global, names: &Names, pieces: &mut Pieces<'a>) -> Result<(
     pieces.push(Piece::Made(Expr::Not(operand)))
 }
 
-fn ask_status<'a>(names: &Names, pieces: &mut Pieces<'a>) -> Result<(), ParseFault>
+/// `exc_get_status` takes its operand.
+fn ask_status(names: &Names, pieces: &mut Pieces) -> Result<(), ParseFault>
     ensures ok { OnOk result (pieces.new ≡ status_asked (scope_seen names.now) pieces.old) }
     ensures fault { IfErr result (λ f. f ≡ ParseFault.NoMemory) }
 {
@@ -150,7 +151,8 @@ fn ask_status<'a>(names: &Names, pieces: &mut Pieces<'a>) -> Result<(), ParseFau
     pieces.push(Piece::Made(Expr::GetStatus(asked)))
 }
 
-fn ask_match<'a>(names: &Names, pieces: &mut Pieces<'a>) -> Result<(), ParseFault>
+/// `exc_matches` takes its operands.
+fn ask_match(names: &Names, pieces: &mut Pieces) -> Result<(), ParseFault>
     ensures ok { OnOk result (pieces.new ≡ match_asked (scope_seen names.now) pieces.old) }
     ensures fault { IfErr result (λ f. f ≡ ParseFault.NoMemory) }
 {

@@ -19,18 +19,20 @@ pub struct Names<'a> {
     pub locals: &'a [Name],
 }
 
+/// The place of the first local with this name.
 fn position(locals: &[Name], name: &Name) -> Option<usize>
     ensures { result ≡ position (bytes_eq name.now) locals.now }
 {
     locals.iter().position(|n| name == n)
 }
 
+/// The place as it stands in a `Var`; there are at most 16.
 fn place_at(place: Option<usize>) -> u8
     ensures { result ≡ place_at place }
 {
     match place {
-        Some(place) => { if place < 256 { place as u8 } else { 0 } }
-        None => 0,
+        Some(place) if place < 256 => place as u8,
+        _ => 0,
     }
 }
 
@@ -55,6 +57,7 @@ impl Names<'_> {
         }
     }
 
+    /// Whether the word is the parameter or a local.
     pub fn is_local(&self, word: &Word) -> bool
         ensures { result ≡ is_local (scope_seen self.now) word.now }
     {
@@ -64,6 +67,7 @@ impl Names<'_> {
         }
     }
 
+    /// The parameter, local or shared variable that the word names.
     pub fn variable(&self, word: &Word) -> Var
         ensures { result ≡ variable_in (scope_seen self.now) word.now }
     {
@@ -74,6 +78,7 @@ impl Names<'_> {
         }
     }
 
+    /// The exception that the word names, or what the running catch body has caught.
     pub fn exception(&self, word: &Word) -> ExcRef
         ensures { result ≡ exception_in (scope_seen self.now) word.now }
     {

@@ -104,6 +104,7 @@ fn chosen(choice: Choice, word: &Word) -> Value
     }
 }
 
+/// The name that a parameter or local gets here.
 fn own(word: &Word) -> Result<Option<Name>, ParseFault>
     ensures ok { IfOk result (λ name. name ≡ own_in word.now) }
     ensures fault { IfErr result (λ f. f ≡ ParseFault.NoMemory) }
@@ -124,6 +125,7 @@ fn is_absent(kind: Object, word: &Word) -> bool
     }
 }
 
+/// The object that the word names, or that there is none.
 #[tactic(auto, unfolding(crate::specs::Resolving::value_in))]
 fn maybe(names: &Names, kind: Object, word: &Word) -> Value
     ensures { result ≡ value_in (scope_seen names.now) (Slot.ObjectOr kind) (Some (Raw word.now)) }
@@ -135,6 +137,7 @@ fn maybe(names: &Names, kind: Object, word: &Word) -> Value
     }
 }
 
+/// The parameter or local that the piece names; without a piece there is none.
 fn receiver(names: &Names, piece: Option<Piece>) -> Value
     ensures { result ≡ receiver_in (scope_seen names.now) (maybe_piece piece.entry) }
 {

@@ -175,6 +175,7 @@ impl Values {
         size_of(self.number())
     }
 
+    /// Takes a number, or else 0.
     pub fn number(&mut self) -> i64
         ensures value { result ≡ as_number (first_of self.old) }
         ensures rest { self.new ≡ after_first self.old }
@@ -182,6 +183,7 @@ impl Values {
         as_number(self.pop())
     }
 
+    /// Takes a word of an `interface` line, or else `status`.
     pub fn interface(&mut self) -> Interface
         ensures value { result ≡ as_interface (first_of self.old) }
         ensures rest { self.new ≡ after_first self.old }
@@ -189,6 +191,7 @@ impl Values {
         as_interface(self.pop())
     }
 
+    /// Takes a policy, or else the last.
     pub fn policy(&mut self) -> Policy
         ensures value { result ≡ as_policy (first_of self.old) }
         ensures rest { self.new ≡ after_first self.old }
@@ -196,6 +199,7 @@ impl Values {
         as_policy(self.pop())
     }
 
+    /// Takes whether a created thread inherits, or else that it does not.
     pub fn inherit(&mut self) -> bool
         ensures value { result ≡ as_inherit (first_of self.old) }
         ensures rest { self.new ≡ after_first self.old }
@@ -203,6 +207,7 @@ impl Values {
         as_inherit(self.pop())
     }
 
+    /// Takes whether a cancelability is on, or else that it is not.
     pub fn cancel(&mut self) -> bool
         ensures value { result ≡ as_cancel (first_of self.old) }
         ensures rest { self.new ≡ after_first self.old }
@@ -210,6 +215,7 @@ impl Values {
         as_cancel(self.pop())
     }
 
+    /// Takes a kind of mutexes, or else the last.
     pub fn kind(&mut self) -> Kind
         ensures value { result ≡ as_kind (first_of self.old) }
         ensures rest { self.new ≡ after_first self.old }
@@ -217,6 +223,7 @@ impl Values {
         as_kind(self.pop())
     }
 
+    /// Takes a declared name, or else the first.
     pub fn id(&mut self) -> NameId
         ensures value { result ≡ as_id (first_of self.old) }
         ensures rest { self.new ≡ after_first self.old }
@@ -224,6 +231,7 @@ impl Values {
         as_id(self.pop())
     }
 
+    /// Takes a declared name, or the word for none.
     pub fn maybe(&mut self) -> Option<NameId>
         ensures value { result ≡ as_maybe (first_of self.old) }
         ensures rest { self.new ≡ after_first self.old }
@@ -231,6 +239,7 @@ impl Values {
         as_maybe(self.pop())
     }
 
+    /// Takes the name of a parameter or local where it is declared.
     pub fn own(&mut self) -> Option<Name>
         ensures value { result ≡ as_own (first_of self.old) }
         ensures rest { self.new ≡ after_first self.old }
@@ -238,6 +247,7 @@ impl Values {
         as_own(self.pop())
     }
 
+    /// Takes a variable, or else the parameter.
     pub fn variable(&mut self) -> Var
         ensures value { result ≡ as_variable (first_of self.old) }
         ensures rest { self.new ≡ after_first self.old }
@@ -245,6 +255,7 @@ impl Values {
         as_variable(self.pop())
     }
 
+    /// Takes the parameter or local that takes what a routine returns, or nothing.
     pub fn receiver(&mut self) -> Option<u8>
         ensures value { result ≡ as_receiver (first_of self.old) }
         ensures rest { self.new ≡ after_first self.old }
@@ -252,6 +263,7 @@ impl Values {
         as_receiver(self.pop())
     }
 
+    /// Takes an expression, or else 0.
     pub fn expression(&mut self) -> Expr
         ensures value { result ≡ as_expression (first_of self.old) }
         ensures rest { self.new ≡ after_first self.old }
