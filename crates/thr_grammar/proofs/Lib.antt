@@ -1,2 +1,3 @@
 pub mod SpacedLaws
 pub mod TreeTexts
+pub mod ParseLaws
