@@ -1,3 +1,4 @@
 pub mod Bodies
 pub mod Views
 pub mod Books
+pub mod Passing

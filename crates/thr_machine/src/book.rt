@@ -6,7 +6,8 @@ ghost use Rattle.thr_values.specs.declared.event.Event.TheVariants as event;
 ghost use Rattle.thr_values.specs.declared.number.Tid.{Tid};
 ghost use Rattle.thr_model.specs.Machine.{made_by, running, thread_number};
 ghost use Rattle.thr_model.specs.Histories.{stop_at, StopsWith, Legal};
-ghost use Rattle.thr_model.specs.Built.{IsBuilt};
+ghost use Rattle.thr_text.specs.Reading.{Formed};
+ghost use Rattle.thr_model.specs.Built.{first_unbuilt};
 
 use crate::place::{body_of, next_slice, number_of};
 use sqlite_items::Items;
@@ -75,7 +76,8 @@ impl Book {
 
     /// A machine of `workers` processors, opened on the script. So far there is one processor.
     pub fn new(alloc: Global, script: Script, workers: u32) -> Result<Book, NoMemory>
-        requires built { IsBuilt script }
+        requires formed { Formed script }
+        requires built { first_unbuilt script ≡ None }
         requires one { workers ≡ 1 }
         ensures { IfOk result (λ b. IsOpened b script workers) }
     {

@@ -3,3 +3,4 @@
 
 pub mod book;
 pub mod place;
+pub mod unbuilt;

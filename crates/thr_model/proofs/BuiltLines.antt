@@ -1,9 +1,8 @@
 -- What a script is whose lines are all built, routine by routine.
-use Rattle.std.proofs.Common.{◌≡◌, ℕ, ◌+◌, ℤ, Bool, true, false, List, [], ◌∷◌, ◌++◌, map, length, Option, Some, None, cond, refl, sym, ap, ◌∙◌, inl, inr}
-use Rattle.std.specs.Prelude.{◌⊎◌, not, codes, position}
+use Rattle.std.proofs.Common.{◌≡◌, ℕ, ◌+◌, ℤ, Bool, true, false, List, [], ◌∷◌, ◌++◌, map, Option, Some, None, cond, refl, sym, ap, ◌∙◌, inl, inr}
+use Rattle.std.specs.Prelude.{◌⊎◌, not, codes}
 use Rattle.std.specs.Option.{option_map}
 use Rattle.std.specs.List.{position_from}
-use Rattle.std.specs.Str.{bytes_eq}
 use Rattle.std.proofs.lemmas.Bool.{false≢true}
 use Rattle.std.proofs.lemmas.Iterator.Adapters.{position_from-zero}
 use Rattle.std.proofs.lemmas.Slice.Eq.{bytes_eq-Decides}
@@ -16,7 +15,7 @@ use Rattle.thr_syntax.specs.declared.tree.Item.{Item}
 use Rattle.thr_syntax.specs.declared.tree.Item.TheVariants as item
 use Rattle.thr_syntax.specs.declared.tree.Script.{Script}
 use Rattle.thr_syntax.specs.Folds.{each_stmt}
-use Rattle.thr_syntax.specs.Lines.{joined, stmt_lines, body_lines, head_lines, item_lines, lines_of}
+use Rattle.thr_syntax.specs.Lines.{stmt_lines, body_lines, head_lines, item_lines, lines_of}
 use Rattle.thr_syntax.specs.Spelling.{name_at}
 use Rattle.thr_model.specs.Built.{is_built, first_unbuilt, say}
 
@@ -124,11 +123,11 @@ built_routine names name [] body h =
 built_routine names name (parameter ∷ []) body h =
     let b = built_body names body (form.End ∷ []) h.1 in
     inr (record {
-        name = name;
-        parameter = parameter;
-        numbers = b.0;
-        named = (bytes_eq-Decides (name_at names name.0) (codes "main")).0 h.0;
-        same = λ i. item.Routine (record { name = name; locals = parameter ∷ []; body = b.1 i });
+      name = name;
+      parameter = parameter;
+      numbers = b.0;
+      named = (bytes_eq-Decides (name_at names name.0) (codes "main")).0 h.0;
+      same = λ i. item.Routine (record { name = name; locals = parameter ∷ []; body = b.1 i });
     })
 built_routine names name (parameter ∷ l ∷ locals) body h = isnt h.1.0
 

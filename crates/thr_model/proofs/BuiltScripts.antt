@@ -1,6 +1,6 @@
 -- A script that keeps the rules and whose lines are all built says numbers.
-use Rattle.std.proofs.Common.{◌≡◌, ℕ, ◌+◌, ◌≤◌, ℤ, Bool, true, false, List, [], ◌∷◌, ◌++◌, map, drop, length, length-append, append-nil, append_assoc, refl, sym, ap, subst, ◌∙◌, arith, zero, suc, inl, inr, None}
-use Rattle.std.specs.Prelude.{◌⊎◌, ◌||◌, not, nat_le, nat_lt, ◌&&◌, ◌==◌, is_some, codes, if◌then◌else◌}
+use Rattle.std.proofs.Common.{◌≡◌, ℕ, ◌+◌, ◌≤◌, ℤ, Bool, true, false, List, [], ◌∷◌, ◌++◌, map, length, length-append, append-nil, append_assoc, refl, sym, ap, subst, ◌∙◌, arith, zero, suc, inl, inr, None}
+use Rattle.std.specs.Prelude.{◌||◌, not, nat_le, codes, if◌then◌else◌}
 use Rattle.std.specs.List.{list_any, position_from}
 use Rattle.std.specs.Str.{bytes_eq}
 use Rattle.std.specs.Fmt.{signed_decimal}
@@ -8,9 +8,7 @@ use Rattle.std.proofs.lemmas.List.{map-append, length-map}
 use Rattle.std.proofs.lemmas.Bool.{false≢true}
 use Rattle.std.proofs.lemmas.Slice.Eq.{bytes_eq-Decides}
 use Rattle.std.proofs.lemmas.Bool.Decides.{nat_tests}
-use Rattle.thr_values.specs.declared.number.NameId.{NameId}
 use Rattle.thr_values.specs.Exceptions.{builtin_names}
-use Rattle.thr_syntax.specs.declared.form.Form.{Form}
 use Rattle.thr_syntax.specs.declared.form.Form.TheVariants as form
 use Rattle.thr_syntax.specs.declared.tree.Item.{Item}
 use Rattle.thr_syntax.specs.declared.tree.Item.TheVariants as item
@@ -18,7 +16,7 @@ use Rattle.thr_syntax.specs.declared.tree.Script.{Script}
 use Rattle.thr_syntax.specs.Folds.{each_expr, each_stmt}
 use Rattle.thr_syntax.specs.Lines.{joined, body_lines, item_lines, lines_of}
 use Rattle.thr_syntax.specs.Spelling.{Scope, name_at, form_words}
-use Rattle.thr_syntax.specs.Canon.{item_words, script_words}
+use Rattle.thr_syntax.specs.Canon.{item_words}
 use Rattle.thr_syntax.proofs.LineLaws.{each_line_once}
 use Rattle.thr_text.specs.declared.word.Word.{Word}
 use Rattle.thr_text.specs.declared.object.Object.TheVariants as object
@@ -286,7 +284,7 @@ only_main whole end names w ns (i ∷ items) built blocks lines =
     elim (built_item names i (first_item_built names (item_lines i) (joined (map item_lines items)) built)) [
       | inl h ↦ absurd (headless_outside end after.0 h.numbers (own_words names items) (subst (λ (ls : List (List Word)). block_faults end [] (numbered_lines after.0 ls) ≡ []) (headless_words names i items h) after.1))
       | inr m ↦ absurd (no_second_main whole 2 w (word_of m.parameter) (body_words ns) (body_words m.numbers ++ own_words names items)
-                  (subst (λ (ls : List (List Word)). lines_faults whole nothing_above (numbered_lines 2 (main_line w ∷ (body_words ns ++ ls))) ≡ []) (main_words names i items m) lines))
+          (subst (λ (ls : List (List Word)). lines_faults whole nothing_above (numbered_lines 2 (main_line w ∷ (body_words ns ++ ls))) ≡ []) (main_words names i items m) lines))
     ]
 
 one_main : (names : List (List ℕ)) (i : Item) → IsMain names i → names ≡ builtin_names ++ codes "main" ∷ [] → IsBuilt (record { names = names; items = i ∷ [] })
@@ -303,11 +301,11 @@ says_main names i items end m built declared blocks limits =
     let own = own_words names (i ∷ items) in
     let words = main_words names i items m in
     let alone = only_main (words_in (numbered_lines 2 own)) end names (word_of m.parameter) m.numbers items built
-      (subst (λ (ls : List (List Word)). block_faults end [] (numbered_lines 2 ls) ≡ []) words blocks)
-      (subst (λ (ls : List (List Word)). lines_faults (words_in (numbered_lines 2 own)) nothing_above (numbered_lines 2 ls) ≡ []) words (keeps_limits end (numbered_lines 2 own) limits).lines) in
+    (subst (λ (ls : List (List Word)). block_faults end [] (numbered_lines 2 ls) ≡ []) words blocks)
+    (subst (λ (ls : List (List Word)). lines_faults (words_in (numbered_lines 2 own)) nothing_above (numbered_lines 2 ls) ≡ []) words (keeps_limits end (numbered_lines 2 own) limits).lines) in
     let declares : declarations own ≡ (codes "main", object.Routine) ∷ []
     = ap declarations (words ∙ ap (λ (is : List Item). main_line (word_of m.parameter) ∷ (body_words m.numbers ++ own_words names is)) alone
-      ∙ ap (λ (ls : List (List Word)). main_line (word_of m.parameter) ∷ ls) (append-nil (body_words m.numbers))) ∙ main_declares (word_of m.parameter) m.numbers in
+    ∙ ap (λ (ls : List (List Word)). main_line (word_of m.parameter) ∷ ls) (append-nil (body_words m.numbers))) ∙ main_declares (word_of m.parameter) m.numbers in
     subst (λ (is : List Item). IsBuilt (record { names = names; items = i ∷ is })) (sym alone)
     (one_main names i m (declared ∙ ap (λ (es : List Entry). builtin_names ++ map (λ (e : Entry). e.0) es) declares))
 

@@ -1,11 +1,12 @@
 use Rattle.std.proofs.Common.{None, refl, arith}
 use Rattle.thr_machine.specs.declared.book.Phase.TheVariants as phase
+use Rattle.thr_model.proofs.BuiltScripts.{formed_scripts_say_numbers}
 use Rattle.thr_machine.proofs.Steps.{reached-opening}
 use Rattle.thr_machine.proofs.book.Book.new.Goals as goal
 
 pub invariant_of-result : goal.invariant_of-result
 invariant_of-result c = record {
-  built = c.requires.built;
+  built = formed_scripts_say_numbers c.args.script c.requires.formed c.requires.built;
   reached = reached-opening (record { script = c.args.script; entries = c.new.result; place = 0; phase = phase.Ready; slice = 8; turns = 0; stopped = None }) c.new.ensures.items refl refl;
   counted = omega arith;
   stopped = tt;
