@@ -1,5 +1,6 @@
 -- What the three passes say of a whole text.
-use Rattle.std.proofs.Common.{◌≡◌, ℕ, Bool, false, List, [], ◌∷◌, ◌++◌, map, length, Option, Some, refl, sym, ap, subst, ◌∙◌}
+use Rattle.std.proofs.Common.{◌≡◌, ℕ, Bool, true, false, List, [], ◌∷◌, ◌++◌, map, length, Option, Some, refl, sym, ap, subst, ◌∙◌}
+use Rattle.std.specs.List.{list_all}
 use Rattle.std.specs.Map.{keys_of}
 use Rattle.std.specs.Str.Lines.{lines}
 use Rattle.thr_syntax.specs.declared.form.Form.{Form}
@@ -14,6 +15,7 @@ use Rattle.thr_text.specs.NameFaults.{words_in, name_faults}
 use Rattle.thr_text.specs.Reading.{Fault, in_pass, scan_faults, script_lines, end_of, faults, Reads}
 use Rattle.thr_text.specs.Refusals.{IsFirst}
 use Rattle.thr_text.specs.Tables.{Entry, entries_of}
+use Rattle.thr_blocks.specs.Build.{is_own}
 use Rattle.thr_resolving.specs.Resolving.{resolved_lines}
 use Rattle.thr_reading.proofs.ReadLaws.{AreFaultfree, kept_words, kept_entries, kept_forms, script_of, forms_nest, forms_own, reads_script, read_faultfree}
 use Rattle.thr_grammar.specs.Parsing.{IsFirstStated}
@@ -76,9 +78,49 @@ blocks_never bytes s e r h = none_stated e (block_faults (end_of bytes) [] (scri
 pub names_never : (bytes : List ℕ) (s : Script) (e : ParseFault) → Reads bytes s → IsFirst e (name_faults (end_of bytes) (script_lines bytes)) → e ≡ NoMemory
 names_never bytes s e r h = none_stated e (name_faults (end_of bytes) (script_lines bytes)) (read_faultfree bytes s r).names h
 
--- ---- the three passes find nothing
+-- ---- the lines that were read are those of the text
 
-pub nest_of : (bytes : List ℕ) (table : List Entry) (forms : List Form) → AreFaultfree bytes → table ≡ entries_of (words_in (script_lines bytes)) → forms ≡ resolved_lines (keys_of table) [] (words_in (script_lines bytes))
-    → Nest [] (map form_shape forms)
-nest_of bytes table forms h is made =
-    subst (λ (fs : List Form). Nest [] (map form_shape fs)) (sym (made ∙ ap (λ (es : List Entry). resolved_lines (keys_of es) [] (words_in (script_lines bytes))) is)) (forms_nest bytes h)
+pub same_blocks : (bytes : List ℕ) (end : ℕ) (kept ls : List Line) → ls ≡ kept → kept ≡ script_lines bytes → end ≡ end_of bytes → block_faults end [] ls ≡ block_faults (end_of bytes) [] (script_lines bytes)
+same_blocks bytes end kept ls s k e = ap (λ (xs : List Line). block_faults end [] xs) (s ∙ k) ∙ ap (λ (n : ℕ). block_faults n [] (script_lines bytes)) e
+
+pub same_names : (bytes : List ℕ) (end : ℕ) (kept ls : List Line) → ls ≡ kept → kept ≡ script_lines bytes → end ≡ end_of bytes → name_faults end ls ≡ name_faults (end_of bytes) (script_lines bytes)
+same_names bytes end kept ls s k e = ap (λ (xs : List Line). name_faults end xs) (s ∙ k) ∙ ap (λ (n : ℕ). name_faults n (script_lines bytes)) e
+
+-- What the passes have given where none found a fault.
+pub record Passed (bytes : List ℕ) (ls : List Line) (table : List Entry) (forms : List Form) : Type 0 where
+  pub faultfree : AreFaultfree bytes
+  pub lines : ls ≡ script_lines bytes
+  pub table_is : table ≡ entries_of (words_in ls)
+  pub forms_are : forms ≡ resolved_lines (keys_of table) [] (words_in ls)
+
+pub forms_kept : (bytes : List ℕ) (ls : List Line) (table : List Entry) (forms : List Form) → Passed bytes ls table forms → forms ≡ kept_forms bytes
+forms_kept bytes ls table forms p =
+    let entries : table ≡ kept_entries bytes = p.table_is ∙ ap (λ (xs : List Line). entries_of (words_in xs)) p.lines in
+    p.forms_are ∙ ap (λ (xs : List Line). resolved_lines (keys_of table) [] (words_in xs)) p.lines ∙ ap (λ (es : List Entry). resolved_lines (keys_of es) [] (kept_words bytes)) entries
+
+pub forms_nesting : (bytes : List ℕ) (ls : List Line) (table : List Entry) (forms : List Form) → Passed bytes ls table forms → Nest [] (map form_shape forms)
+forms_nesting bytes ls table forms p = subst (λ (fs : List Form). Nest [] (map form_shape fs)) (sym (forms_kept bytes ls table forms p)) (forms_nest bytes p.faultfree)
+
+pub forms_are_own : (bytes : List ℕ) (ls : List Line) (table : List Entry) (forms : List Form) → Passed bytes ls table forms → list_all is_own forms ≡ true
+forms_are_own bytes ls table forms p = ap (list_all is_own) (forms_kept bytes ls table forms p) ∙ forms_own bytes p.faultfree
+
+pub script_read : (bytes : List ℕ) (ls : List Line) (table : List Entry) (forms : List Form) (items : List Item) (names : List (List ℕ)) → Passed bytes ls table forms
+    → joined (map item_lines items) ≡ forms → names ≡ keys_of table → Reads bytes (record { names = names; items = items })
+script_read bytes ls table forms items names p built is =
+    let entries : table ≡ kept_entries bytes = p.table_is ∙ ap (λ (xs : List Line). entries_of (words_in xs)) p.lines in
+    subst (λ (ns : List (List ℕ)). Reads bytes (record { names = ns; items = items })) (sym (is ∙ ap keys_of entries))
+    (reads_script bytes items p.faultfree (built ∙ forms_kept bytes ls table forms p))
+
+pub passed_of : (bytes : List ℕ) (end : ℕ) (kept ls : List Line) (table : List Entry) (forms : List Form)
+    → scan_faults 1 false (lines bytes) ≡ [] → kept ≡ script_lines bytes → end ≡ end_of bytes → ls ≡ kept → block_faults end [] ls ≡ [] → name_faults end ls ≡ []
+    → table ≡ entries_of (words_in ls) → forms ≡ resolved_lines (keys_of table) [] (words_in ls) → Passed bytes ls table forms
+passed_of bytes end kept ls table forms plain k e s blocks names is made = record {
+  faultfree = record {
+    scan = plain;
+    blocks = sym (same_blocks bytes end kept ls s k e) ∙ blocks;
+    names = sym (same_names bytes end kept ls s k e) ∙ names;
+  };
+  lines = s ∙ k;
+  table_is = is;
+  forms_are = made;
+}
