@@ -71,8 +71,7 @@ written_lines names locals (f ∷ fs) own numbers forms scopes =
     let p = both (is_own f) (list_all is_own fs) own in
     let o = no_header f p.0 in
     let same = same_locals scope locals f o forms.0 in
-    let good : IsScope scope = subst (λ (k : List (List ℕ)). IsScope (scope_of names k)) same scopes.0 in
-    (
+    let good : IsScope scope = subst (λ (k : List (List ℕ)). IsScope (scope_of names k)) same scopes.0 in (
       record {
         some = some_words scope f o;
         text = ap (join_with_byte 32) (sym (line_texts scope f good o numbers.0 forms.0));

@@ -104,10 +104,10 @@ in_range whole above words e =
     no_limit (is_out_of_range (head_of_line words) (rest_of words))
     ((nat_lt 0 (length (declared_in words)) && nat_le 1000 (length (declarations above.lines))) || (nat_lt 32 (depth_below above.depth (shape_of_line words)) || nat_lt 16 (length (locals_below above.locals words))))
     (last_nil
-      (when (list_any (λ x. is_again_word x.0 x.1 (entries_of whole) (entries_of above.lines) above.locals) (placed_in words) || is_second above.lines words) 15)
-      (when (list_any (is_undeclared (entries_of whole) (locals_below above.locals words)) (placed_in words)) 16)
-      (when (list_any (is_misused (entries_of whole) (locals_below above.locals words)) (placed_in words)) 17)
-      (when (passes_limit above words) 18) e)
+    (when (list_any (λ x. is_again_word x.0 x.1 (entries_of whole) (entries_of above.lines) above.locals) (placed_in words) || is_second above.lines words) 15)
+    (when (list_any (is_undeclared (entries_of whole) (locals_below above.locals words)) (placed_in words)) 16)
+    (when (list_any (is_misused (entries_of whole) (locals_below above.locals words)) (placed_in words)) 17)
+    (when (passes_limit above words) 18) e)
 
 all_in_range : (whole : Lines) (above : Above) (ls : List Line) → lines_faults whole above ls ≡ [] → AreInRange (words_in ls)
 unfolding lines_faults

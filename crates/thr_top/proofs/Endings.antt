@@ -6,24 +6,40 @@ use Rattle.thr_values.specs.declared.event.Stop.{Stop}
 use Rattle.thr_values.specs.declared.event.Stop.TheVariants as stops
 use Rattle.thr_syntax.specs.declared.tree.Script.{Script}
 use Rattle.thr_wire.specs.Bytes.{TookMoreThan, TookAll}
-use Rattle.thr_model.specs.Built.{IsBuilt, AreBuiltLines}
+use Rattle.thr_text.specs.Reading.{Formed}
+use Rattle.thr_model.specs.Built.{first_unbuilt, IsBuilt, AreBuiltLines}
 use Rattle.thr_model.specs.Histories.{History, stop_at}
+use Rattle.thr_model.proofs.BuiltScripts.{formed_scripts_say_numbers, formed_scripts_are_few}
 use Rattle.thr_model.proofs.Short.{short-finishes, short-lines}
 use Rattle.thr_machine.specs.Views.{BookView}
 use Rattle.thr_machine.specs.Books.{IsReached, stop_of}
-use Rattle.thr_top.specs.Small.{ReadsSmall}
 use Rattle.thr_top.specs.Driving.{IsFew, IsAtEnd}
-use Rattle.thr_top.specs.Answers.{RunEnds, answered, unread, no_memory, whole, max_script}
+use Rattle.thr_top.specs.Answers.{Refuses, RunAnswers, CheckAnswers, Ends, answered, unread, no_memory, not_run, not_checked, whole, max_script}
 
 gains-nothing : (o : Option (List ℕ)) → Appends o o []
 gains-nothing None = tt
 gains-nothing (Some xs) = sym (append-nil xs)
 
-pub ends-no-memory : (w : ℕ) (input : List ℕ) (old : Option (List ℕ)) → RunEnds w input old old 5
-ends-no-memory w input old = answered 5 [] (no_memory refl refl) (whole refl (gains-nothing old))
+pub ends-no-memory : (Answers : ℕ → List ℕ → Type 0) (old : Option (List ℕ)) → Answers 5 [] → Ends Answers old old 5
+ends-no-memory Answers old none = answered 5 [] none (whole refl (gains-nothing old))
 
-pub ends-unread : (w : ℕ) (input : List ℕ) (old : Option (List ℕ)) → RunEnds w input old old 3
-ends-unread w input old = unread refl (gains-nothing old)
+pub ends-unread : (Answers : ℕ → List ℕ → Type 0) (old : Option (List ℕ)) → Ends Answers old old 3
+ends-unread Answers old = unread refl (gains-nothing old)
+
+pub no-memory-run : (input : List ℕ) → RunAnswers 1 input 5 []
+no-memory-run input = not_run (no_memory refl refl)
+
+pub no-memory-check : (input : List ℕ) → CheckAnswers input 5 []
+no-memory-check input = not_checked (no_memory refl refl)
+
+-- An input that is refused for itself, by either command.
+pub run-refused : (input : List ℕ) (old new : Option (List ℕ)) (status : ℕ) → Ends (Refuses input) old new status → Ends (RunAnswers 1 input) old new status
+run-refused input old new status (unread e a) = unread e a
+run-refused input old new status (answered w t r x) = answered w t (not_run r) x
+
+pub check-refused : (input : List ℕ) (old new : Option (List ℕ)) (status : ℕ) → Ends (Refuses input) old new status → Ends (CheckAnswers input) old new status
+check-refused input old new status (unread e a) = unread e a
+check-refused input old new status (answered w t r x) = answered w t (not_checked r) x
 
 -- what holds of the bytes that were read holds of those that were left, where they are told
 pub told-all : (left now : Option (List ℕ)) (bytes : List ℕ) (P : List ℕ → Type 0) → TookAll left now bytes → P bytes → IfSome left P
@@ -61,8 +77,10 @@ at-end b after why few r e is =
 pub few-built : (s : Script) → IsFew s → IsBuilt s
 few-built s few = record { parameter = few.parameter; numbers = few.numbers; same = few.same }
 
-pub few-of : (bytes : List ℕ) (s : Script) → ReadsSmall bytes s → IsFew s
-few-of bytes s r = record { parameter = r.parameter; numbers = r.numbers; few = r.few; same = r.same }
+pub few-of : (s : Script) → Formed s → first_unbuilt s ≡ None → IsFew s
+few-of s formed none =
+    let b = formed_scripts_say_numbers s formed none in
+    record { parameter = b.parameter; numbers = b.numbers; few = formed_scripts_are_few s b.parameter b.numbers formed b.same; same = b.same }
 
 pub not-memory : (stop : Stop) → stop ≡ stops.Finished → stop ≡ stops.Memory → ⊥
 not-memory stop e f = absurd (cc)

@@ -1,4 +1,2 @@
 pub mod Spelling
 pub mod Endings
-pub mod SmallLaws
-pub mod SmallLengths

@@ -21,23 +21,10 @@ use Rattle.thr_syntax.specs.Canon.{line, canon, script_words}
 use Rattle.thr_text.specs.Journals.{numbered, what_words, who_word, stop_words, text}
 use Rattle.thr_model.specs.Machine.{main_body}
 use Rattle.thr_model.specs.Built.{IsBuilt, IsBuiltLine, AreBuiltLines, saying_script, say}
-use Rattle.thr_machine.specs.Bodies.{IsSay, AllSay}
 use Rattle.thr_top.specs.Answers.{one_line}
-use Rattle.thr_top.specs.Printing.{statement_line, main_parameter, what_text, plain_lines, stop_text}
+use Rattle.thr_top.specs.Printing.{what_text, plain_lines, stop_text}
 
 -- ---- the script
-
-says-all : (ns : List ℤ) → AllSay (map say ns)
-says-all [] = tt
-says-all (n ∷ ns) = (tt, says-all ns)
-
-pub body-says : (s : Script) → IsBuilt s → AllSay (main_body s.items)
-body-says s b = rw b.same (says-all b.numbers)
-
-pub say-item : (ss : List Stmt) (i : ℕ) (d : Stmt) → AllSay ss → i < length ss → d ≡ slice_index_or ss i d → IsSay d
-say-item [] i d a h e = absurd (omega arith)
-say-item (s ∷ ss) zero d a h e = rw e a.0
-say-item (s ∷ ss) (suc i) d a h e = say-item ss i d a.1 (omega arith) e
 
 -- the words of the body's lines and of the `end` after them
 abbrev say_words : ℤ → List (List ℕ)
@@ -71,35 +58,6 @@ saying-lines s b =
     many-words : (ns : List ℤ) → suc (suc (length (map say_words ns ++ end_words ∷ []))) ≡ length ns + 3
     many-words [] = refl
     many-words (n ∷ ns) = omega (arith, many-words ns)
-
-body-text : (ns : List ℤ) → joined (map line (map say_words ns ++ end_words ∷ [])) ≡ flat_map statement_line (map say ns) ++ one_line (codes "end")
-body-text [] = append-nil _
-body-text (n ∷ ns) = ap (λ (t : List ℕ). statement_line (say n) ++ t) (body-text ns) ∙ sym (append_assoc (statement_line (say n)) (flat_map statement_line (map say ns)) (one_line (codes "end")))
-
--- the canonical text of a script that says numbers
-saying-canon : (s : Script) → IsBuilt s → canon s ≡ one_line (codes "dcethr 1") ++ (one_line (codes "routine main " ++ main_parameter s.items) ++ (flat_map statement_line (main_body s.items) ++ one_line (codes "end")))
-saying-canon s b =
-    subst (λ (x : Script). canon x ≡ one_line (codes "dcethr 1") ++ (one_line (codes "routine main " ++ main_parameter x.items) ++ (flat_map statement_line (main_body x.items) ++ one_line (codes "end")))) (sym b.same)
-    (ap (λ (ls : List (List (List ℕ))). joined (map line ls)) (saying-words b.parameter b.numbers)
-    ∙ ap (λ (t : List ℕ). one_line (codes "dcethr 1") ++ (one_line (codes "routine main " ++ b.parameter) ++ t)) (body-text b.numbers))
-
--- one more statement is printed
-pub body-more : (first out next : List ℕ) (ss : List Stmt) (i : ℕ) (s : Stmt) (n : ℤ) → i < length ss → s ≡ slice_index_or ss i s → s ≡ say n
-    → out ≡ first ++ flat_map statement_line (take i ss) → next ≡ out ++ one_line (codes "say " ++ signed_decimal n) → next ≡ first ++ flat_map statement_line (take (i + 1) ss)
-body-more first out next ss i s n h e is o x =
-    let here : take (i + 1) ss ≡ take i ss ++ s ∷ [] = take_more ss i s h ∙ ap (λ (t : Stmt). take i ss ++ t ∷ []) (sym e) in
-    let more : flat_map statement_line (take (i + 1) ss) ≡ flat_map statement_line (take i ss) ++ one_line (codes "say " ++ signed_decimal n)
-    = ap (flat_map statement_line) here ∙ flat_map-append statement_line (take i ss) (s ∷ []) ∙ ap (λ (t : List ℕ). flat_map statement_line (take i ss) ++ t) (append-nil _ ∙ ap statement_line is) in
-    x ∙ ap (λ (t : List ℕ). t ++ one_line (codes "say " ++ signed_decimal n)) o ∙ append_assoc first _ (one_line (codes "say " ++ signed_decimal n)) ∙ ap (λ (t : List ℕ). first ++ t) (sym more)
-
--- the script is printed in four steps
-pub script-steps : (s : Script) (first a b c d : List ℕ) → IsBuilt s → a ≡ first ++ one_line (codes "dcethr 1") → b ≡ a ++ one_line (codes "routine main " ++ main_parameter s.items)
-    → c ≡ b ++ flat_map statement_line (main_body s.items) → d ≡ c ++ one_line (codes "end") → d ≡ first ++ canon s
-script-steps s first a b c d built ha hb hc hd =
-    rw (hd, hc, hb, ha) (regroup-four first _ _ _ _ ∙ ap (λ (t : List ℕ). first ++ t) (sym (saying-canon s built)))
-  where
-    regroup-four : (x a b c d : List ℕ) → (((x ++ a) ++ b) ++ c) ++ d ≡ x ++ (a ++ (b ++ (c ++ d)))
-    regroup-four x a b c d = simp append_assoc
 
 -- ---- the history
 

@@ -1,17 +1,31 @@
 -- What the program answers, and what it writes (docs/theorems.md, "The top call").
-use Rattle.std.specs.Prelude.{◌≡◌, ◌≢◌, ℕ, ◌≤◌, ◌<◌, List, [], ◌∷◌, ◌++◌, length, take, codes, Option}
+use Rattle.std.specs.Prelude.{◌≡◌, ◌≢◌, ◌⊎◌, ℕ, ◌≤◌, ◌<◌, List, [], ◌∷◌, ◌++◌, length, take, codes, Option, None, Some}
+use Rattle.std.specs.Fmt.{decimal}
 use Rattle.std.specs.Io.KnownBytes.{Appends}
 use Rattle.thr_values.specs.declared.history.Entry.{Entry}
 use Rattle.thr_values.specs.declared.event.Stop.{Stop}
 use Rattle.thr_values.specs.declared.event.Stop.TheVariants as stops
 use Rattle.thr_syntax.specs.declared.tree.Script.{Script}
+use Rattle.thr_syntax.specs.Canon.{canon}
+use Rattle.thr_text.specs.Faults.{first_of}
 use Rattle.thr_text.specs.Journals.{text}
+use Rattle.thr_text.specs.Reading.{Reads, faults}
+use Rattle.thr_model.specs.Built.{first_unbuilt}
 use Rattle.thr_model.specs.Histories.{Legal}
-use Rattle.thr_top.specs.Small.{ReadsSmall}
 
--- The words of the one command that is built, `run 1`.
+-- ---- the words of the commands that are built
+
 abbrev pub IsRunOne : List (List ℕ) → Type 0
 IsRunOne words = words ≡ codes "run" ∷ codes "1" ∷ []
+
+abbrev pub IsCheck : List (List ℕ) → Type 0
+IsCheck words = words ≡ codes "check" ∷ []
+
+-- The words have a form that is built.
+abbrev pub IsCommand : List (List ℕ) → Type 0
+IsCommand words = IsRunOne words ⊎ IsCheck words
+
+-- ---- texts and statuses
 
 -- How many bytes a script has at most.
 abbrev pub max_script : ℕ
@@ -31,27 +45,53 @@ one_line text = text ++ 10 ∷ []
 abbrev pub usage : List ℕ
 usage = one_line (codes "usage: dcethr run W | check | verify | report | make N T | trial N W")
 
--- The bytes are the text of some script of the small form.
-abbrev pub IsSmall : List ℕ → Type 0
-IsSmall input = (s : Script) × ReadsSmall input s
+-- The fault of this number at this line.
+abbrev pub refusal : ℕ → ℕ → List ℕ
+refusal number line = one_line (codes "refused F" ++ (decimal number ++ (codes " line " ++ decimal line)))
+
+abbrev pub unbuilt : ℕ → List ℕ
+unbuilt line = one_line (codes "refused not built line " ++ decimal line)
+
+-- ---- answers
+
+-- This status and this text answer a command that reads a script, where the input is none.
+pub data Refuses (input : List ℕ) (status : ℕ) (written : List ℕ) : Type 0 where
+  too_long : max_script < length input → status ≡ 2 → written ≡ one_line (codes "refused too long") → Refuses input status written
+  -- The first stated fault, by its pass, its line and its number.
+  faulty : length input ≤ max_script → (pass line number : ℕ) → first_of (faults input) ≡ Some (pass, line, number)
+      → status ≡ 2 → written ≡ refusal number line → Refuses input status written
+  -- Want of memory, of which nothing says when it comes.
+  no_memory : status ≡ 5 → written ≡ [] → Refuses input status written
 
 -- This status and this text answer `run` with so many workers on this input.
 pub data RunAnswers (workers : ℕ) (input : List ℕ) (status : ℕ) (written : List ℕ) : Type 0 where
   -- The journal of a legal history of the script, with the status of its stop.
-  ran : (s : Script) (entries : List Entry) (stop : Stop) → length input ≤ max_script → ReadsSmall input s → Legal s workers entries stop
+  ran : (s : Script) (entries : List Entry) (stop : Stop) → length input ≤ max_script → Reads input s → first_unbuilt s ≡ None → Legal s workers entries stop
       → stop ≢ stops.Memory → status ≡ status_of stop → written ≡ text s workers entries stop → RunAnswers workers input status written
-  empty : input ≡ [] → status ≡ 2 → written ≡ one_line (codes "refused F5 line 1") → RunAnswers workers input status written
-  not_built : length input ≤ max_script → input ≢ [] → (IsSmall input → ⊥) → status ≡ 2 → written ≡ one_line (codes "refused not built") → RunAnswers workers input status written
-  too_long : max_script < length input → status ≡ 2 → written ≡ one_line (codes "refused too long") → RunAnswers workers input status written
-  -- Want of memory, of which nothing says when it comes.
-  no_memory : status ≡ 5 → written ≡ [] → RunAnswers workers input status written
+  -- The first line of the canonical text that the machine doesn't run yet.
+  not_built : (s : Script) (line : ℕ) → length input ≤ max_script → Reads input s → first_unbuilt s ≡ Some line
+      → status ≡ 2 → written ≡ unbuilt line → RunAnswers workers input status written
+  not_run : Refuses input status written → RunAnswers workers input status written
+
+-- This status and this text answer `check` on this input.
+pub data CheckAnswers (input : List ℕ) (status : ℕ) (written : List ℕ) : Type 0 where
+  checked : (s : Script) → length input ≤ max_script → Reads input s → status ≡ 0 → written ≡ canon s → CheckAnswers input status written
+  not_checked : Refuses input status written → CheckAnswers input status written
 
 -- The text was written and this is its status, or the write failed with a part of the text written, which is status 4.
 pub data Writes (old new : Option (List ℕ)) (status wanted : ℕ) (written : List ℕ) : Type 0 where
   whole : status ≡ wanted → Appends old new written → Writes old new status wanted written
   failed : status ≡ 4 → (n : ℕ) → Appends old new (take n written) → Writes old new status wanted written
 
--- How `run` ends on this input: it was not read, or an answer was written.
-pub data RunEnds (workers : ℕ) (input : List ℕ) (old new : Option (List ℕ)) (status : ℕ) : Type 0 where
-  unread : status ≡ 3 → Appends old new [] → RunEnds workers input old new status
-  answered : (wanted : ℕ) (written : List ℕ) → RunAnswers workers input wanted written → Writes old new status wanted written → RunEnds workers input old new status
+-- How a command ends, whose answers are these: its input was not read, or an answer was written.
+pub data Ends (Answers : ℕ → List ℕ → Type 0) (old new : Option (List ℕ)) (status : ℕ) : Type 0 where
+  unread : status ≡ 3 → Appends old new [] → Ends Answers old new status
+  answered : (wanted : ℕ) (written : List ℕ) → Answers wanted written → Writes old new status wanted written → Ends Answers old new status
+
+-- The input is the text of a script.
+abbrev pub IsScript : List ℕ → Type 0
+IsScript input = (length input ≤ max_script) × ((s : Script) × Reads input s)
+
+-- The input is the text of a script that the machine runs.
+abbrev pub IsRun : List ℕ → Type 0
+IsRun input = (length input ≤ max_script) × ((s : Script) × Reads input s × (first_unbuilt s ≡ None))

@@ -1,4 +1,3 @@
-pub mod Small
 pub mod Driving
 pub mod Printing
 pub mod Answers

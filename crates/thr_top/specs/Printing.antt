@@ -14,16 +14,6 @@ use Rattle.thr_syntax.specs.declared.tree.Item.TheVariants as item
 use Rattle.thr_text.specs.Journals.{who_word}
 use Rattle.thr_top.specs.Answers.{one_line}
 
--- The line of a statement that says a number.
-abbrev pub statement_line : Stmt → List ℕ
-statement_line (stmt.Say (expr.Num n)) = one_line (codes "say " ++ signed_decimal n)
-statement_line _ = []
-
--- The parameter of `main`, where it is the first declaration.
-abbrev pub main_parameter : List Item → List ℕ
-main_parameter (item.Routine r ∷ items) = unwrap_or (slice_get r.locals 0) []
-main_parameter _ = []
-
 -- What a line says, of the three kinds that there are so far.
 abbrev pub what_text : What → List ℕ
 what_text (what.Run t) = codes "run t" ++ decimal t.0

@@ -1,7 +1,7 @@
 //! The words that the program is given, and the status that it ends with.
 
 ghost use Rattle.std.specs.Prelude.{◌≡◌, ◌↔◌, IsTrue, string_bytes};
-ghost use Rattle.thr_top.specs.Answers.{IsRunOne};
+ghost use Rattle.thr_top.specs.Answers.{IsRunOne, IsCheck};
 
 use std::marker::Model;
 
@@ -37,12 +37,22 @@ impl Word {
     }
 }
 
-/// Whether the words ask to run a script with one worker. No other command is built yet.
-pub fn asks_run_one(words: &[Word]) -> bool
+/// Whether the words ask for a command that runs a script on workers: so far `run 1` alone.
+pub fn needs_workers(words: &[Word]) -> bool
     ensures { IsTrue result ↔ IsRunOne words.now }
 {
     match words {
         [run, one] => run.is("run") && one.is("1"),
+        _ => false,
+    }
+}
+
+/// Whether the words ask to check a script.
+pub fn asks_check(words: &[Word]) -> bool
+    ensures { IsTrue result ↔ IsCheck words.now }
+{
+    match words {
+        [check] => check.is("check"),
         _ => false,
     }
 }

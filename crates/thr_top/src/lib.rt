@@ -1,10 +1,11 @@
 //! The top call of the program, as a library.
 #![tactic(auto)]
 
+mod answer;
+pub mod check;
 pub mod command;
 mod print;
 mod run;
-mod small;
 #[cfg(test)]
 mod tests;
 pub mod top;

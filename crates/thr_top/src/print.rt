@@ -2,19 +2,17 @@
 
 ghost use Rattle.std.specs.Prelude.{◌≡◌, ◌+◌, ◌++◌, ◌∷◌, [], codes, length, IfOk, OnOk, string_bytes};
 ghost use Rattle.std.specs.Fmt.{decimal};
-ghost use Rattle.std.specs.List.{flat_map};
 ghost use Rattle.thr_syntax.specs.Canon.{canon, script_words};
 ghost use Rattle.thr_text.specs.Journals.{text, who_word};
-ghost use Rattle.thr_model.specs.Machine.{main_body};
-ghost use Rattle.thr_model.specs.Built.{IsBuilt, IsBuiltLine, AreBuiltLines, say};
-ghost use Rattle.thr_machine.specs.Bodies.{AllSay};
+ghost use Rattle.thr_model.specs.Built.{IsBuilt, IsBuiltLine, AreBuiltLines};
 ghost use Rattle.thr_top.specs.Answers.{one_line};
-ghost use Rattle.thr_top.specs.Printing.{statement_line, what_text, plain_line, plain_lines, stop_text, main_parameter};
+ghost use Rattle.thr_top.specs.Printing.{what_text, plain_line, plain_lines, stop_text};
 
 use std::alloc::{AllocError, Global};
-use thr_machine::place::{body_of, number_of};
+use thr_grammar::print::print;
+use thr_machine::place::body_of;
 use thr_syntax::journal::Journal;
-use thr_syntax::tree::{Item, Script, Stmt};
+use thr_syntax::tree::Script;
 use thr_values::event::Stop;
 use thr_values::history::{Entry, What, Who};
 use thr_values::number::Tid;
@@ -48,43 +46,14 @@ fn add_count(alloc: Global, out: &mut Vec<u8>, text: &[u8], count: u64) -> Resul
 
 // ---- the script
 
-/// Adds the lines of statements that say numbers.
-fn add_body(alloc: Global, out: &mut Vec<u8>, body: &[Stmt]) -> Result<(), AllocError>
-    requires { AllSay body.now }
-    ensures { OnOk result (out.new.items ≡ out.old.items ++ flat_map statement_line body.now) }
-{
-    for stmt in body {
-        let number = number_of(stmt);
-        let number = number.to_string(alloc)?;
-        add_pair(out, b"say ", number.as_bytes())?;
-    }
-    Ok(())
-}
-
-/// The parameter of `main`.
-fn parameter_of(script: &Script) -> &[u8]
-    requires { IsBuilt script.now }
-    ensures { result.now ≡ main_parameter script.now.items }
-{
-    match script.items.as_slice() {
-        [Item::Routine(routine), ..] => match routine.locals.as_slice() {
-            [parameter, ..] => parameter.as_slice(),
-            [] => unreachable!(),
-        },
-        _ => unreachable!(),
-    }
-}
-
 /// Adds the canonical text of a script.
 fn add_script(alloc: Global, out: &mut Vec<u8>, script: &Script) -> Result<(), AllocError>
-    requires { IsBuilt script.now }
     ensures { OnOk result (out.new.items ≡ out.old.items ++ canon script.now) }
 {
-    add_line(out, b"dcethr 1")?;
-    add_pair(out, b"routine main ", parameter_of(script))?;
-    add_body(alloc, out, body_of(script))?;
-    add_line(out, b"end")?;
-    Ok(())
+    match print(alloc, script) {
+        Ok(text) => out.extend_from_slice(text.as_slice()),
+        Err(_) => Err(AllocError),
+    }
 }
 
 /// How many lines the canonical text of a script has.

@@ -1,10 +1,11 @@
 //! Runs a script to its end.
 
-ghost use Rattle.std.specs.Prelude.{◌≡◌, ◌<◌, IfOk, OnOk, IsSome, Some, None, true, false, length};
+ghost use Rattle.std.specs.Prelude.{◌≡◌, ◌<◌, IfOk, OnOk, IsSome, None, Some, true, false, length};
 ghost use Rattle.thr_values.specs.declared.event.Stop.TheVariants as stops;
-ghost use Rattle.thr_model.specs.Built.{AreBuiltLines};
+ghost use Rattle.thr_text.specs.Reading.{Formed};
+ghost use Rattle.thr_model.specs.Built.{first_unbuilt, AreBuiltLines};
 ghost use Rattle.thr_model.specs.Histories.{Legal};
-ghost use Rattle.thr_top.specs.Driving.{IsFew, IsGoing, IsAtEnd, room_of};
+ghost use Rattle.thr_top.specs.Driving.{IsGoing, IsAtEnd, room_of};
 
 use std::alloc::Global;
 use thr_machine::book::Book;
@@ -42,9 +43,10 @@ fn drive(book: &mut Book) -> Result<(), NoMemory>
     Ok(())
 }
 
-/// The journal of a legal history of a script that says few numbers. Its thread ends.
+/// The journal of a legal history of a script that the machine runs. Its thread ends.
 pub fn history_of(alloc: Global, script: Script) -> Result<Journal, NoMemory>
-    requires { IsFew script }
+    requires formed { Formed script }
+    requires built { first_unbuilt script ≡ None }
     ensures legal { IfOk result (λ j. Legal script 1 j.entries j.stop) }
     ensures stop { IfOk result (λ j. j.stop ≡ stops.Finished) }
     ensures lines { IfOk result (λ j. AreBuiltLines j.entries) }

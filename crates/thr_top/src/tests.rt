@@ -30,100 +30,254 @@ const NONE_SAID: &str = "dcethr 1\nroutine main a\nend\n";
 const NONE_SAID_JOURNAL: &str =
     "dcethr journal 1\nworkers 1\nscript 3\ndcethr 1\nroutine main a\nend\nhistory\n1 p0 run t1\n2 t1 end 0\nstop finished\n";
 
-const NOT_BUILT: &str = "refused not built\n";
+/// Blocks of each kind, an empty `else`, and lines with each kind of place, in other spellings than the canonical ones.
+const ALL_SORTS: &str =
+    "dcethr 1 # sorts\ninterface status\nlimit 010\nshared x -0\nexception e_1\nstatus s 5\nmutex m\nmutexattr b\ncond c\nattr t\nkey k\nonce o\npipe p 1\n\nroutine w a\nlocal v\n set v + a * -2 not x\nif exc_matches e_1 s\nelse\nend\n\ttry\nraise e_1\ncatch s\nset v exc_get_status this\nreraise\ncatch_all\nendtry\ntry\nwhile < v 3\ncall w err v\nend\nfinally\npthread_mutex_init m default\npthread_mutex_init m b\nendtry\nreturn self\nend\nroutine main a\ncall w 1\npthread_create x t w a\npthread_keycreate k none\npthread_setcancel CANCEL_OFF x\npthread_setscheduler a SCHED_RR 12 x # rr\npthread_exit 0\nend\n";
+
+const ALL_SORTS_PLAIN: &str =
+    "dcethr 1\ninterface status\nlimit 10\nshared x 0\nexception e_1\nstatus s 5\nmutex m\nmutexattr b\ncond c\nattr t\nkey k\nonce o\npipe p 1\nroutine w a\nlocal v\nset v + a * -2 not x\nif exc_matches e_1 s\nelse\nend\ntry\nraise e_1\ncatch s\nset v exc_get_status this\nreraise\ncatch_all\nendtry\ntry\nwhile < v 3\ncall w err v\nend\nfinally\npthread_mutex_init m default\npthread_mutex_init m b\nendtry\nreturn self\nend\nroutine main a\ncall w 1\npthread_create x t w a\npthread_keycreate k none\npthread_setcancel CANCEL_OFF x\npthread_setscheduler a SCHED_RR 12 x\npthread_exit 0\nend\n";
 
 /// The words, parted by spaces, the input, and the status and the text that they give.
-const CASES: [(&str, &str, u8, &str); 28] = [
+const CASES: [(&str, &str, u8, &str); 56] = [
     ("run 1", SEVEN, 0, SEVEN_JOURNAL),
     ("run 1", MANY, 0, MANY_JOURNAL),
     ("run 1", NONE_SAID, 0, NONE_SAID_JOURNAL),
-    ("run 1", "", 2, "refused F5 line 1\n"),
-    ("run 1", "\n", 2, NOT_BUILT),
-    (
-        "run 1",
-        "dcethr 1\nroutine main a\nraise a\nend\n",
-        2,
-        NOT_BUILT,
-    ),
+    // other spellings of the same script
     (
         "run 1",
         "dcethr 1\nroutine main a\nsay 07\nend\n",
-        2,
-        NOT_BUILT,
+        0,
+        SEVEN_JOURNAL,
     ),
     (
         "run 1",
-        "dcethr 1\nroutine main a\nsay -0\nend\n",
+        "dcethr 1\nroutine main a\nsay  7 # seven\nend",
+        0,
+        SEVEN_JOURNAL,
+    ),
+    (
+        "run 1",
+        "\ndcethr 01\r\nroutine main a\r\n\n\tsay 7\nend\n\n",
+        0,
+        SEVEN_JOURNAL,
+    ),
+    // each pass has its faults
+    ("run 1", "", 2, "refused F5 line 1\n"),
+    ("run 1", "\n", 2, "refused F5 line 2\n"),
+    ("run 1", "dcethr 2\n", 2, "refused F5 line 1\n"),
+    (
+        "run 1",
+        "dcethr 1\nroutine main a\nsay 9223372036854775808\nend\n",
         2,
-        NOT_BUILT,
+        "refused F3 line 3\n",
     ),
     (
         "run 1",
         "dcethr 1\nroutine main a\nsay +7\nend\n",
         2,
-        NOT_BUILT,
+        "refused F6 line 3\n",
     ),
     (
         "run 1",
-        "dcethr 1\nroutine main a\nsay 9223372036854775808\nend\n",
+        "dcethr 1\nroutine main a\nsay\nend\n",
         2,
-        NOT_BUILT,
-    ),
-    (
-        "run 1",
-        "dcethr 1\nroutine main a\nsay  7\nend\n",
-        2,
-        NOT_BUILT,
-    ),
-    (
-        "run 1",
-        "dcethr 1\nroutine main a\nsay 7\nend",
-        2,
-        NOT_BUILT,
-    ),
-    (
-        "run 1",
-        "dcethr 1\nroutine main a\nsay 7\nend\n\n",
-        2,
-        NOT_BUILT,
-    ),
-    (
-        "run 1",
-        "dcethr 1\r\nroutine main a\nsay 7\nend\n",
-        2,
-        NOT_BUILT,
-    ),
-    (
-        "run 1",
-        "dcethr 1\nroutine main main\nsay 7\nend\n",
-        2,
-        NOT_BUILT,
-    ),
-    (
-        "run 1",
-        "dcethr 1\nroutine main cancel_e\nsay 7\nend\n",
-        2,
-        NOT_BUILT,
+        "refused F7 line 3\n",
     ),
     (
         "run 1",
         "dcethr 1\nroutine main pthread_yield\nsay 7\nend\n",
         2,
-        NOT_BUILT,
+        "refused F6 line 2\n",
     ),
     (
         "run 1",
         "dcethr 1\nroutine main 9a\nsay 7\nend\n",
         2,
-        NOT_BUILT,
+        "refused F6 line 2\n",
     ),
     (
         "run 1",
         "dcethr 1\nroutine main abcdefghijklmnopqrstuvwxy\nend\n",
         2,
-        NOT_BUILT,
+        "refused F6 line 2\n",
     ),
-    ("run 1", "dcethr 1\nroutine main a\nsay 7\n", 2, NOT_BUILT),
+    (
+        "run 1",
+        "dcethr 1\nroutine main a\nsay 7\n",
+        2,
+        "refused F8 line 4\n",
+    ),
+    (
+        "run 1",
+        "dcethr 1\nroutine main main\nsay 7\nend\n",
+        2,
+        "refused F15 line 2\n",
+    ),
+    (
+        "run 1",
+        "dcethr 1\nroutine main cancel_e\nsay 7\nend\n",
+        2,
+        "refused F15 line 2\n",
+    ),
+    (
+        "run 1",
+        "dcethr 1\nroutine main a\nraise a\nend\n",
+        2,
+        "refused F17 line 3\n",
+    ),
+    // a fault of the text comes before a line that is not built
+    (
+        "run 1",
+        "dcethr 1\nmutex m\nroutine main a\nraise a\nend\n",
+        2,
+        "refused F17 line 4\n",
+    ),
+    (
+        "run 1",
+        "\ndcethr 1\n\nmutex m\nroutine main a\nend\n",
+        2,
+        "refused not built line 2\n",
+    ),
+    (
+        "run 1",
+        "dcethr 1\nroutine main a\nlocal t\nend\n",
+        2,
+        "refused not built line 3\n",
+    ),
+    (
+        "run 1",
+        "dcethr 1\nroutine main a\nsay 1\nsay a\nend\n",
+        2,
+        "refused not built line 4\n",
+    ),
+    (
+        "run 1",
+        "dcethr 1\nroutine main a\nwhile 0\nsay 1\nend\nend\n",
+        2,
+        "refused not built line 3\n",
+    ),
+    (
+        "run 1",
+        "dcethr 1\nroutine main a\nend\nroutine w a\nend\n",
+        2,
+        "refused not built line 4\n",
+    ),
+    // checking
+    ("check", SEVEN, 0, SEVEN),
+    (
+        "check",
+        "dcethr 1\r\n# note\n\troutine  main a\n say -007\nend",
+        0,
+        "dcethr 1\nroutine main a\nsay -7\nend\n",
+    ),
+    ("check", ALL_SORTS, 0, ALL_SORTS_PLAIN),
+    ("check", ALL_SORTS_PLAIN, 0, ALL_SORTS_PLAIN),
+    (
+        "check",
+        "dcethr 1\nroutine main a\ntry\nendtry\nend\n",
+        2,
+        "refused F12 line 4\n",
+    ),
+    (
+        "check",
+        "dcethr 1\nroutine main a\ntry\ncatch cancel_e\nfinally\nendtry\nend\n",
+        2,
+        "refused F11 line 5\n",
+    ),
+    (
+        "check",
+        "dcethr 1\nroutine main a\nsay x\nend\n",
+        2,
+        "refused F16 line 3\n",
+    ),
+    (
+        "check",
+        "dcethr 1\nroutine main a\nsay x\nend\nend\n",
+        2,
+        "refused F9 line 5\n",
+    ),
+    (
+        "check",
+        "dcethr 1\nmutex m\nroutine main a\nset m 1\nend\n",
+        2,
+        "refused F17 line 4\n",
+    ),
+    ("check", "dcethr 1\n", 2, "refused F18 line 2\n"),
+    // names and limits at their edges
+    (
+        "check",
+        "dcethr 1\nroutine main a\nset x 1\nend\nshared x 0\n",
+        0,
+        "dcethr 1\nroutine main a\nset x 1\nend\nshared x 0\n",
+    ),
+    (
+        "check",
+        "dcethr 1\nmutex m\nroutine main a\nset m y\nend\n",
+        2,
+        "refused F16 line 4\n",
+    ),
+    (
+        "check",
+        "dcethr 1\nroutine main a\nend\nmutex a\n",
+        2,
+        "refused F15 line 2\n",
+    ),
+    (
+        "check",
+        "dcethr 1\nroutine main a\nend\nroutine main b\nend\n",
+        2,
+        "refused F15 line 4\n",
+    ),
+    ("check", "dcethr 1\nmutex main\n", 2, "refused F18 line 3\n"),
+    (
+        "check",
+        "dcethr 1\nlimit 0\nroutine main a\nend\n",
+        2,
+        "refused F18 line 2\n",
+    ),
+    (
+        "check",
+        "dcethr 1\nlimit 1\nroutine main a\nend\n",
+        0,
+        "dcethr 1\nlimit 1\nroutine main a\nend\n",
+    ),
+    (
+        "check",
+        "dcethr 1\nlimit 1000000\nroutine main a\nend\n",
+        0,
+        "dcethr 1\nlimit 1000000\nroutine main a\nend\n",
+    ),
+    (
+        "check",
+        "dcethr 1\nlimit 1000001\nroutine main a\nend\n",
+        2,
+        "refused F18 line 2\n",
+    ),
+    (
+        "check",
+        "dcethr 1\npipe p 0\nroutine main a\nend\n",
+        2,
+        "refused F18 line 2\n",
+    ),
+    (
+        "check",
+        "dcethr 1\npipe p 1\nroutine main a\nend\n",
+        0,
+        "dcethr 1\npipe p 1\nroutine main a\nend\n",
+    ),
+    (
+        "check",
+        "dcethr 1\npipe p 4096\nroutine main a\nend\n",
+        0,
+        "dcethr 1\npipe p 4096\nroutine main a\nend\n",
+    ),
+    (
+        "check",
+        "dcethr 1\npipe p 4097\nroutine main a\nend\n",
+        2,
+        "refused F18 line 2\n",
+    ),
+    // words of no form
     ("", SEVEN, 1, USAGE),
     ("run", SEVEN, 1, USAGE),
     ("run 0", SEVEN, 1, USAGE),
@@ -131,7 +285,7 @@ const CASES: [(&str, &str, u8, &str); 28] = [
     ("run 17", SEVEN, 1, USAGE),
     ("run 1 1", SEVEN, 1, USAGE),
     ("check x", SEVEN, 1, USAGE),
-    ("check", SEVEN, 1, USAGE),
+    ("verify", SEVEN, 1, USAGE),
 ];
 
 fn words_of(alloc: Global, line: &str) -> Result<Vec<Word>, Fail> {
@@ -190,33 +344,168 @@ fn devices_fail_and_move_little(rt: HostRuntime) -> Result<(), Fail> {
 #[test]
 fn the_limit_on_bytes_is_exact(rt: HostRuntime) -> Result<(), Fail> {
     let alloc = rt.alloc();
-    let words = words_of(alloc, "run 1")?;
-    for (count, text) in [(1048576, NOT_BUILT), (1048577, "refused too long\n")] {
-        let mut source = GoodSource::new(vec![in alloc; b' '; count]?);
-        let mut sink = GoodSink::new(alloc);
-        let Status(got) = top(alloc, words.as_slice(), &mut source, &mut sink);
-        assert_eq!(rt; got, 2);
-        assert_eq!(rt; sink.as_slice(), text.as_bytes());
+    for command in ["run 1", "check"] {
+        let words = words_of(alloc, command)?;
+        for (count, text) in [
+            (1048576, "refused F2 line 1\n"),
+            (1048577, "refused too long\n"),
+        ] {
+            let mut source = GoodSource::new(vec![in alloc; b' '; count]?);
+            let mut sink = GoodSink::new(alloc);
+            let Status(got) = top(alloc, words.as_slice(), &mut source, &mut sink);
+            assert_eq!(rt; got, 2);
+            assert_eq!(rt; sink.as_slice(), text.as_bytes());
+        }
     }
     Ok(())
 }
 
-/// A script of 20,000 lines runs, and one of a line more is not of the small form.
+/// A text of repeated lines between others: before, the line, how often, after, and what `check` answers, where the empty text
+/// says that the script is accepted.
+const LIMITS: [(&str, &str, u32, &str, &str); 12] = [
+    // 20,000 lines and one more
+    ("dcethr 1\nroutine main a\n", "say 1\n", 19997, "end\n", ""),
+    (
+        "dcethr 1\nroutine main a\n",
+        "say 1\n",
+        19998,
+        "end\n",
+        "refused F18 line 20001\n",
+    ),
+    // blank lines and comments count
+    ("dcethr 1\nroutine main a\n", "\n", 19997, "end\n", ""),
+    (
+        "dcethr 1\nroutine main a\n",
+        "#\n",
+        19998,
+        "end\n",
+        "refused F18 line 20001\n",
+    ),
+    (
+        "dcethr 1\nroutine main a\nend\n",
+        "\n",
+        19998,
+        "",
+        "refused F18 line 20001\n",
+    ),
+    // the routine is at depth 1
+    (
+        "dcethr 1\nroutine main a\n",
+        "while 1\n",
+        31,
+        "",
+        "refused F8 line 34\n",
+    ),
+    (
+        "dcethr 1\nroutine main a\n",
+        "while 1\n",
+        32,
+        "",
+        "refused F8 line 35\n",
+    ),
+    // the parameter is one of 16 locals
+    ("dcethr 1\nroutine main a\n", "local b@\n", 15, "end\n", ""),
+    (
+        "dcethr 1\nroutine main a\n",
+        "local b@\n",
+        16,
+        "end\n",
+        "refused F18 line 18\n",
+    ),
+    // the routine is one of 1,000 declared names
+    ("dcethr 1\n", "mutex m@\n", 999, "routine main a\nend\n", ""),
+    (
+        "dcethr 1\n",
+        "mutex m@\n",
+        1000,
+        "routine main a\nend\n",
+        "refused F18 line 1002\n",
+    ),
+    (
+        "dcethr 1\nroutine main a\nend\n",
+        "mutex m@\n",
+        1000,
+        "",
+        "refused F18 line 1003\n",
+    ),
+];
+
+/// The line with the number at each `@`.
+fn add_numbered(alloc: Global, text: &mut Vec<u8>, line: &str, number: u32) -> Result<(), Fail> {
+    let number = number.to_string(alloc)?;
+    for byte in line.as_bytes() {
+        if *byte == b'@' {
+            text.extend_from_slice(number.as_bytes())?;
+        } else {
+            text.push(*byte)?;
+        }
+    }
+    Ok(())
+}
+
 #[test]
-fn the_limit_on_lines_is_exact(rt: HostRuntime) -> Result<(), Fail> {
+fn the_limits_of_a_script_are_exact(rt: HostRuntime) -> Result<(), Fail> {
     let alloc = rt.alloc();
-    let words = words_of(alloc, "run 1")?;
-    for (numbers, status) in [(19997u32, 0), (19998, 2)] {
+    let words = words_of(alloc, "check")?;
+    for (before, line, count, after, text) in LIMITS {
+        let mut script = Vec::from_slice(alloc, before.as_bytes())?;
+        for number in 0..count {
+            add_numbered(alloc, &mut script, line, number)?;
+        }
+        script.extend_from_slice(after.as_bytes())?;
+        let mut source = GoodSource::new(script);
+        let mut sink = GoodSink::new(alloc);
+        let Status(got) = top(alloc, words.as_slice(), &mut source, &mut sink);
+        assert_eq!(rt; got, if text.is_empty() { 0 } else { 2 }, "{line}: {count}");
+        if !text.is_empty() {
+            assert_eq!(rt; sink.as_slice(), text.as_bytes(), "{line}: {count}");
+        }
+    }
+    Ok(())
+}
+
+/// Blocks in one another: 31 in a routine are accepted, and 32 are not.
+#[test]
+fn the_limit_on_depth_is_exact(rt: HostRuntime) -> Result<(), Fail> {
+    let alloc = rt.alloc();
+    let words = words_of(alloc, "check")?;
+    for (depth, status) in [(31u32, 0), (32, 2)] {
         let mut script = Vec::from_slice(alloc, b"dcethr 1\nroutine main a\n")?;
-        for _ in 0..numbers {
-            script.extend_from_slice(b"say 1\n")?;
+        for _ in 0..depth {
+            script.extend_from_slice(b"while 1\n")?;
+        }
+        for _ in 0..depth {
+            script.extend_from_slice(b"end\n")?;
         }
         script.extend_from_slice(b"end\n")?;
+        let expected = Vec::from_slice(alloc, script.as_slice())?;
         let mut source = GoodSource::new(script);
         let mut sink = GoodSink::new(alloc);
         let Status(got) = top(alloc, words.as_slice(), &mut source, &mut sink);
         assert_eq!(rt; got, status);
+        if status == 0 {
+            assert_eq!(rt; sink.as_slice(), expected.as_slice());
+        } else {
+            assert_eq!(rt; sink.as_slice(), b"refused F18 line 34\n".as_slice());
+        }
     }
+    Ok(())
+}
+
+/// A script of 20,000 lines runs.
+#[test]
+fn the_longest_script_runs(rt: HostRuntime) -> Result<(), Fail> {
+    let alloc = rt.alloc();
+    let words = words_of(alloc, "run 1")?;
+    let mut script = Vec::from_slice(alloc, b"dcethr 1\nroutine main a\n")?;
+    for _ in 0..19997 {
+        script.extend_from_slice(b"say 1\n")?;
+    }
+    script.extend_from_slice(b"end\n")?;
+    let mut source = GoodSource::new(script);
+    let mut sink = GoodSink::new(alloc);
+    let Status(got) = top(alloc, words.as_slice(), &mut source, &mut sink);
+    assert_eq!(rt; got, 0);
     Ok(())
 }
 

@@ -1,21 +1,23 @@
-use Rattle.std.proofs.Common.{refl, ap, Err}
-use Rattle.thr_top.specs.Answers.{answered, empty, not_built}
-use Rattle.thr_top.proofs.Endings.{ends-no-memory}
+use Rattle.std.proofs.Common.{ap, refl, Err, arith}
+use Rattle.thr_top.specs.Answers.{RunAnswers, Ends, answered, not_run, too_long}
+use Rattle.thr_top.proofs.Endings.{ends-no-memory, no-memory-run, told-all, told-any, told-long, finishes-well}
 use Rattle.thr_top.proofs.top.run_one.Goals as goal
 
-pub returns-in-Ok-clause-ends : goal.returns-in-Ok-clause-ends
-returns-in-Ok-clause-ends g c = c.run_script.ensures.ends c.args.input.now c.requires c.in-Ok.ensures.ok
+pub returns-in-Ok-clause-run : goal.returns-in-Ok-clause-run
+returns-in-Ok-clause-run g c =
+    told-all _ _ _ (λ input. Ends (RunAnswers 1 input) (g.K.Sink.held c.args.sink.now) (g.K.Sink.held c.run_input.new.sink) c.run_input.result.0) c.in-Ok.ensures.whole (rw c.as_slice.ensures.value at c.run_input.ensures.ends)
 
-pub returns-in-Err-Empty-clause-ends : goal.returns-in-Err-Empty-clause-ends
-returns-in-Err-Empty-clause-ends g c = answered _ _ (empty (c.in-Err-Empty.ensures.empty.0 (ap Err c.in-Err-Empty.field-0-is)) refl refl) c.give.ensures.written
+pub returns-in-Ok-clause-complete : goal.returns-in-Ok-clause-complete
+returns-in-Ok-clause-complete g c =
+    told-all _ _ _ _ c.in-Ok.ensures.whole (λ script read write. finishes-well _ (rw c.as_slice.ensures.value at c.run_input.ensures.complete script) (λ four. write (c.run_input.ensures.write four)))
 
-pub returns-in-Err-NotBuilt-clause-ends : goal.returns-in-Err-NotBuilt-clause-ends
-returns-in-Err-NotBuilt-clause-ends g c =
-    let refused = c.in-Err-NotBuilt.ensures.not_built (ap Err c.in-Err-NotBuilt.field-0-is) in
-    answered _ _ (not_built c.requires refused.0 (λ small. refused.1 small.0 small.1) refl refl) c.give-in-Err-NotBuilt.ensures.written
+pub returns-in-Err-TooLong-clause-run : goal.returns-in-Err-TooLong-clause-run
+returns-in-Err-TooLong-clause-run g c =
+    told-long _ _ _ (c.in-Err-TooLong.ensures.long (ap Err c.in-Err-TooLong.field-0-is)) (λ input long. answered _ _ (not_run (too_long long refl refl)) c.give.ensures.written)
 
-pub returns-in-Err-NotBuilt-clause-complete : goal.returns-in-Err-NotBuilt-clause-complete
-returns-in-Err-NotBuilt-clause-complete g c = λ small. absurd ((c.in-Err-NotBuilt.ensures.not_built (ap Err c.in-Err-NotBuilt.field-0-is)).1 small.0 small.1)
+pub returns-in-Err-NoMemory-clause-run : goal.returns-in-Err-NoMemory-clause-run
+returns-in-Err-NoMemory-clause-run g c = told-any _ _ (λ input. ends-no-memory (RunAnswers 1 input) _ (no-memory-run input))
 
-pub returns-in-Err-NoMemory-clause-ends : goal.returns-in-Err-NoMemory-clause-ends
-returns-in-Err-NoMemory-clause-ends g c = ends-no-memory _ _ _
+pub returns-in-Err-TooLong-clause-complete : goal.returns-in-Err-TooLong-clause-complete
+returns-in-Err-TooLong-clause-complete g c =
+    told-long _ _ _ (c.in-Err-TooLong.ensures.long (ap Err c.in-Err-TooLong.field-0-is)) (λ input long script read write. absurd (omega (arith, long, script.0)))

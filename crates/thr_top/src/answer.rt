@@ -1,0 +1,42 @@
+//! Writes answers.
+
+ghost use Rattle.std.specs.Prelude.{◌≡◌, ◌≢◌, ◌++◌, IfOk, codes, string_bytes};
+ghost use Rattle.std.specs.Fmt.{decimal};
+ghost use Rattle.thr_wire.specs.Causes.{Rose};
+ghost use Rattle.thr_top.specs.Answers.{Writes, refusal, unbuilt};
+
+use crate::command::Status;
+use std::alloc::{AllocError, Global};
+use thr_text::fault::Place;
+use thr_values::number::Line;
+use thr_wire::whole::write_all;
+use thr_wire::wire::Sink;
+
+/// Writes a text. The answer is the status that goes with it, or 4 where the sink failed.
+pub fn give<K: Sink>(sink: &mut K, status: u8, text: &[u8]) -> Status
+    ensures written { Writes (K.held sink.old) (K.held sink.new) result.0 status text.now }
+    ensures cause { result.0 ≢ status → (result.0 ≡ 4) × Rose (K.faults sink.old) (K.faults sink.new) }
+{
+    match write_all(sink, text) {
+        Ok(()) => Status(status),
+        Err(_) => Status(4),
+    }
+}
+
+/// What is written for a fault.
+pub fn refusal(alloc: Global, place: Place) -> Result<String, AllocError>
+    ensures { IfOk result (λ s. string_bytes s ≡ refusal place.number place.line) }
+{
+    let Place { number, line } = place;
+    let mut text = format!(in alloc; "refused F{number} line {line}")?;
+    text.push_str("\n")?;
+    Ok(text)
+}
+
+/// What is written for a line that the machine doesn't run yet.
+pub fn unbuilt(alloc: Global, line: Line) -> Result<String, AllocError>
+    ensures { IfOk result (λ s. string_bytes s ≡ unbuilt line.0) }
+{
+    let Line(line) = line;
+    format!(in alloc; "refused not built line {line}\n")
+}

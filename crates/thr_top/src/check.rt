@@ -1,0 +1,103 @@
+//! The commands that need no workers.
+
+ghost use Rattle.std.specs.Prelude.{◌≡◌, ◌≢◌, ◌≤◌, ◌+◌, ◌⊎◌, IfSome, List, [], ℕ, Some, length};
+ghost use Rattle.thr_wire.specs.Bytes.{TookAtMost, TookMoreThan};
+ghost use Rattle.thr_wire.specs.Causes.{Rose};
+ghost use Rattle.thr_text.specs.Faults.{first_of};
+ghost use Rattle.thr_text.specs.Reading.{Reads, faults};
+ghost use Rattle.thr_top.specs.Answers.{IsRunOne, IsCheck, IsScript, Refuses, CheckAnswers, Ends, Writes, max_script, usage};
+
+use crate::answer::{give, refusal};
+use crate::command::{Status, Word, asks_check};
+use std::alloc::Global;
+use thr_grammar::parse::parse;
+use thr_grammar::print::print;
+use thr_syntax::tree::Script;
+use thr_text::fault::{ParseFault, Place};
+use thr_wire::fault::WireFault;
+use thr_wire::whole::read_all;
+use thr_wire::wire::{Sink, Source};
+
+/// How many bytes a script has at most.
+pub const MAX_SCRIPT: u64 = 1048576;
+
+const USAGE: &[u8] = b"usage: dcethr run W | check | verify | report | make N T | trial N W\n";
+
+/// Writes what a fault is refused with.
+pub fn refuse<K: Sink>(alloc: Global, place: Place, sink: &mut K) -> Status
+    ensures refused { (input : List ℕ) → length input ≤ max_script → (pass : ℕ) → first_of (faults input) ≡ Some (pass, place.line, place.number) → Ends (Refuses input) (K.held sink.old) (K.held sink.new) result.0 }
+    ensures status { (result.0 ≡ 2) ⊎ ((result.0 ≡ 5) ⊎ (result.0 ≡ 4)) }
+    ensures write { result.0 ≡ 4 → Rose (K.faults sink.old) (K.faults sink.new) }
+{
+    match refusal(alloc, place) {
+        Ok(text) => give(sink, 2, text.as_bytes()),
+        Err(_) => Status(5),
+    }
+}
+
+/// Writes the canonical text of a script.
+fn check_script<K: Sink>(alloc: Global, script: &Script, sink: &mut K) -> Status
+    ensures ends { (input : List ℕ) → length input ≤ max_script → Reads input script.now → Ends (CheckAnswers input) (K.held sink.old) (K.held sink.new) result.0 }
+    ensures status { (result.0 ≡ 0) ⊎ ((result.0 ≡ 5) ⊎ (result.0 ≡ 4)) }
+    ensures write { result.0 ≡ 4 → Rose (K.faults sink.old) (K.faults sink.new) }
+{
+    match print(alloc, script) {
+        Ok(text) => give(sink, 0, text.as_slice()),
+        Err(_) => Status(5),
+    }
+}
+
+/// Answers `check` on an input that was read whole.
+fn check_input<K: Sink>(alloc: Global, input: &[u8], sink: &mut K) -> Status
+    requires { length input.now ≤ max_script }
+    ensures ends { Ends (CheckAnswers input.now) (K.held sink.old) (K.held sink.new) result.0 }
+    ensures complete { IsScript input.now → (result.0 ≡ 0) ⊎ ((result.0 ≡ 5) ⊎ (result.0 ≡ 4)) }
+    ensures write { result.0 ≡ 4 → Rose (K.faults sink.old) (K.faults sink.new) }
+    ensures known { (result.0 ≤ 5) × (result.0 ≢ 1) × (result.0 ≢ 3) }
+{
+    match parse(alloc, input) {
+        Ok(script) => check_script(alloc, &script, sink),
+        Err(ParseFault::Refused(place)) => refuse(alloc, place, sink),
+        Err(ParseFault::NoMemory) => Status(5),
+    }
+}
+
+/// Does what words say that need no workers (docs/theorems.md, "The top call"). It waits for nobody and returns.
+pub fn plain_top<S: Source, K: Sink>(
+    alloc: Global,
+    words: &[Word],
+    source: &mut S,
+    sink: &mut K,
+) -> Status
+    requires { ¬ (IsRunOne words.now) }
+    // Words of no form get the usage line, and nothing is read.
+    ensures usage { ¬ (IsCheck words.now) → Writes (K.held sink.old) (K.held sink.new) result.0 1 usage }
+    ensures only_usage { result.0 ≡ 1 → ¬ (IsCheck words.now) }
+    ensures unread { ¬ (IsCheck words.now) → source.new ≡ source.old }
+
+    // `check` takes all that the source has left, or more than the limit of it and nothing behind the byte that shows so.
+    ensures at_most { IsCheck words.now → TookAtMost (max_script + 1) (S.left source.old) (S.left source.new) }
+    ensures taken { IsCheck words.now → result.0 ≢ 3 → result.0 ≢ 5 → IfSome (S.left source.old) (λ input. (S.left source.new ≡ Some []) ⊎ TookMoreThan max_script input (S.left source.new)) }
+
+    // `check` writes the canonical text of the script, or what stands in its place. Where no device has a fault, the text of
+    // a script gives 0, or 5 for want of memory.
+    ensures check { IsCheck words.now → IfSome (S.left source.old) (λ input. Ends (CheckAnswers input) (K.held sink.old) (K.held sink.new) result.0) }
+    ensures complete { IsCheck words.now → IfSome (S.left source.old) (λ input.
+        IsScript input → ¬ (Rose (S.faults source.old) (S.faults source.new)) → ¬ (Rose (K.faults sink.old) (K.faults sink.new))
+        → (result.0 ≡ 0) ⊎ (result.0 ≡ 5)) }
+
+    // Faults of the devices are their own.
+    ensures read { result.0 ≡ 3 → Rose (S.faults source.old) (S.faults source.new) }
+    ensures write { result.0 ≡ 4 → Rose (K.faults sink.old) (K.faults sink.new) }
+    ensures known { result.0 ≤ 5 }
+{
+    if !asks_check(words) {
+        return give(sink, 1, USAGE);
+    }
+    match read_all(alloc, source, MAX_SCRIPT) {
+        Ok(input) => check_input(alloc, input.as_slice(), sink),
+        Err(WireFault::ReadFault) => Status(3),
+        Err(WireFault::TooLong) => give(sink, 2, b"refused too long\n"),
+        Err(WireFault::NoMemory) => Status(5),
+    }
+}
