@@ -20,14 +20,14 @@ use Rattle.thr_blocks.specs.declared.frame.Opener.{Opener}
 use Rattle.thr_blocks.specs.declared.frame.Opener.TheVariants as opener
 use Rattle.thr_blocks.specs.declared.frame.Frame.{Frame}
 use Rattle.thr_blocks.specs.declared.frame.OpenRoutine.{OpenRoutine}
-use Rattle.thr_blocks.specs.Build.{Half, frame, clause, opened, opening, at_clause, put_outside, put_inside, put, built, HasParameter}
+use Rattle.thr_blocks.specs.Build.{Building, frame, clause, with_parts, begun_routine, at_clause, put_outside, put_inside, put, built, HasParameter}
 use Rattle.thr_blocks.proofs.Flat.{clauses_lines, items_lines}
 
-abbrev inside : List Item → OpenRoutine → List Stmt → List Frame → Half
-inside done r body fs = (done, Some (opened r r.locals body fs))
+abbrev inside : List Item → OpenRoutine → List Stmt → List Frame → Building
+inside done r body fs = (done, Some (with_parts r r.locals body fs))
 
-then : (h g : Half) (xs ys : List Form) → fold put h xs ≡ g → fold put h (xs ++ ys) ≡ fold put g ys
-then h g xs ys e = fold-append put h xs ys ∙ ap (λ (x : Half). fold put x ys) e
+then : (h g : Building) (xs ys : List Form) → fold put h xs ≡ g → fold put h (xs ++ ys) ≡ fold put g ys
+then h g xs ys e = fold-append put h xs ys ∙ ap (λ (x : Building). fold put x ys) e
 
 abbrev Again : Stmt → Type 0
 Again s = (done : List Item) (r : OpenRoutine) (body : List Stmt) (fs : List Frame) → fold put (inside done r body fs) (stmt_lines s) ≡ inside done r (body ++ s ∷ []) fs
@@ -101,7 +101,7 @@ past_clause c cs h done r outer fs o body =
     let rest : List Form = clauses_lines cs ++ form.Endtry ∷ [] in
     let inner : List Frame = frame (at_clause c.names o body) outer ∷ fs in
     ap (fold put (inside done r body (frame o outer ∷ fs))) (append_assoc (clause_form c.names ∷ body_lines c.body) (clauses_lines cs) (form.Endtry ∷ []))
-    ∙ ap (λ (x : Half). fold put x (body_lines c.body ++ rest)) (put_clause done r outer fs o body c.names)
+    ∙ ap (λ (x : Building). fold put x (body_lines c.body ++ rest)) (put_clause done r outer fs o body c.names)
     ∙ then (inside done r [] inner) (inside done r c.body inner) (body_lines c.body) rest (h done r [] inner)
 
 more_clauses : (c : Clause) (cs : List Clause) → AgainBody c.body → AgainClauses cs → AgainClauses (c ∷ cs)
@@ -173,11 +173,11 @@ pub built_body : (ss : List Stmt) (done : List Item) (r : OpenRoutine) (body : L
 built_body = body_induction Again AgainBody AgainClauses cases
 
 built_locals : (locals : List (List ℕ)) (done : List Item) (r : OpenRoutine) (before : List (List ℕ))
-    → fold put (done, Some (opened r before [] [])) (map (λ (n : List ℕ). form.Local n) locals) ≡ (done, Some (opened r (before ++ locals) [] []))
+    → fold put (done, Some (with_parts r before [] [])) (map (λ (n : List ℕ). form.Local n) locals) ≡ (done, Some (with_parts r (before ++ locals) [] []))
 unfolding put_inside
-built_locals [] done r before = ap (λ (b : List (List ℕ)). let h : Half = (done, Some (opened r b [] [])) in h) (sym (append-nil before))
+built_locals [] done r before = ap (λ (b : List (List ℕ)). let h : Building = (done, Some (with_parts r b [] [])) in h) (sym (append-nil before))
 built_locals (local ∷ locals) done r before =
-    built_locals locals done r (before ++ local ∷ []) ∙ ap (λ (b : List (List ℕ)). let h : Half = (done, Some (opened r b [] [])) in h) (append_assoc before (local ∷ []) locals)
+    built_locals locals done r (before ++ local ∷ []) ∙ ap (λ (b : List (List ℕ)). let h : Building = (done, Some (with_parts r b [] [])) in h) (append_assoc before (local ∷ []) locals)
 
 abbrev pub IsWhole : Item → Type 0
 IsWhole (item.Routine r) = HasParameter r.locals
@@ -191,9 +191,9 @@ built_routine : (name : NameId) (locals : List (List ℕ)) (body : List Stmt) (d
 unfolding put_outside put_inside
 built_routine name [] body done q = absurd q
 built_routine name (parameter ∷ locals) body done q =
-    let r : OpenRoutine = opening name parameter in
-    then (done, Some r) (done, Some (opened r (parameter ∷ locals) [] [])) (map (λ (n : List ℕ). form.Local n) locals) (body_lines body ++ form.End ∷ []) (built_locals locals done r (parameter ∷ []))
-    ∙ then (done, Some (opened r (parameter ∷ locals) [] [])) (inside done (opened r (parameter ∷ locals) [] []) body []) (body_lines body) (form.End ∷ []) (built_body body done (opened r (parameter ∷ locals) [] []) [] [])
+    let r : OpenRoutine = begun_routine name parameter in
+    then (done, Some r) (done, Some (with_parts r (parameter ∷ locals) [] [])) (map (λ (n : List ℕ). form.Local n) locals) (body_lines body ++ form.End ∷ []) (built_locals locals done r (parameter ∷ []))
+    ∙ then (done, Some (with_parts r (parameter ∷ locals) [] [])) (inside done (with_parts r (parameter ∷ locals) [] []) body []) (body_lines body) (form.End ∷ []) (built_body body done (with_parts r (parameter ∷ locals) [] []) [] [])
 
 pub built_item : (i : Item) (done : List Item) → IsWhole i → fold put (done, None) (item_lines i) ≡ (done ++ i ∷ [], None)
 unfolding put_outside
@@ -216,10 +216,10 @@ AreWhole [] = Unit {0}
 AreWhole (i ∷ all) = IsWhole i × AreWhole all
 
 built_items : (all done : List Item) → AreWhole all → fold put (done, None) (items_lines all) ≡ (done ++ all, None)
-built_items [] done q = ap (λ (d : List Item). let h : Half = (d, None) in h) (sym (append-nil done))
+built_items [] done q = ap (λ (d : List Item). let h : Building = (d, None) in h) (sym (append-nil done))
 built_items (i ∷ all) done q =
     then (done, None) (done ++ i ∷ [], None) (item_lines i) (items_lines all) (built_item i done q.0)
-    ∙ built_items all (done ++ i ∷ []) q.1 ∙ ap (λ (d : List Item). let h : Half = (d, None) in h) (append_assoc done (i ∷ []) all)
+    ∙ built_items all (done ++ i ∷ []) q.1 ∙ ap (λ (d : List Item). let h : Building = (d, None) in h) (append_assoc done (i ∷ []) all)
 
 pub again : (all : List Item) → AreWhole all → built (items_lines all) ≡ (all, None)
 again all q = built_items all [] q

@@ -9,15 +9,15 @@ use Rattle.thr_text.specs.declared.block.Block.{Block}
 use Rattle.thr_text.specs.Blocks.{form_shape, Nest}
 use Rattle.thr_blocks.specs.declared.frame.Frame.{Frame}
 use Rattle.thr_blocks.specs.declared.frame.OpenRoutine.{OpenRoutine}
-use Rattle.thr_blocks.specs.Build.{Half, put, built, is_own}
+use Rattle.thr_blocks.specs.Build.{Building, put, built, is_own}
 use Rattle.thr_blocks.proofs.Flat.{items_lines, open_lines, half_lines, open_blocks, blocks_of, IsNamed}
 use Rattle.thr_blocks.proofs.PutLaws.{Puts, puts}
 
-pub record Keeps (h : Half) (forms : List Form) (new : Half) : Type 0 where
+pub record Keeps (h : Building) (forms : List Form) (new : Building) : Type 0 where
   pub lines : half_lines new ≡ half_lines h ++ filter is_own forms
   pub blocks : blocks_of new.1 ≡ []
 
-pub keeps : (forms : List Form) (h : Half) → IsNamed h.1 → Nest (blocks_of h.1) (map form_shape forms) → Keeps h forms (fold put h forms)
+pub keeps : (forms : List Form) (h : Building) → IsNamed h.1 → Nest (blocks_of h.1) (map form_shape forms) → Keeps h forms (fold put h forms)
 keeps [] h q n = record { lines = sym (append-nil (half_lines h)); blocks = n }
 keeps (f ∷ forms) h q n =
     let p : Puts h (put h f) f = puts h.0 h.1 f q n.0 in

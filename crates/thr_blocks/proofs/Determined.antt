@@ -15,7 +15,7 @@ use Rattle.thr_syntax.proofs.TreeInduction.{StmtCases, stmt_induction}
 use Rattle.thr_syntax.proofs.FoldLaws.{each_stmt-Set, each_stmt-Say, each_stmt-If, each_stmt-While, each_stmt-TryCatch, each_stmt-TryFinally, each_stmt-Raise, each_stmt-Reraise, each_stmt-Call, each_stmt-Return, each_stmt-Exit, each_stmt-Dce}
 use Rattle.thr_text.specs.declared.block.Block.{Block}
 use Rattle.thr_text.specs.Blocks.{form_shape, Nest}
-use Rattle.thr_blocks.specs.Build.{Half, put, built}
+use Rattle.thr_blocks.specs.Build.{Building, put, built}
 use Rattle.thr_blocks.proofs.Flat.{items_lines, blocks_of, IsNamed}
 use Rattle.thr_blocks.proofs.PutLaws.{HasPlace, Puts, puts}
 use Rattle.thr_blocks.proofs.AgainLaws.{IsWhole, AreWhole, built_item, again}
@@ -124,7 +124,7 @@ whole_item (item.Once name) rest n = tt
 whole_item (item.Pipe name k) rest n = tt
 
 -- Lines that nest, past some of them.
-nest_after : (xs ys : List Form) (h : Half) → IsNamed h.1 → Nest (blocks_of h.1) (map form_shape (xs ++ ys)) → Nest (blocks_of (fold put h xs).1) (map form_shape ys)
+nest_after : (xs ys : List Form) (h : Building) → IsNamed h.1 → Nest (blocks_of h.1) (map form_shape (xs ++ ys)) → Nest (blocks_of (fold put h xs).1) (map form_shape ys)
 nest_after [] ys h q n = n
 nest_after (f ∷ xs) ys h q n =
     let p : Puts h (put h f) f = puts h.0 h.1 f q n.0 in
@@ -134,16 +134,16 @@ pub whole_items : (all : List Item) → Nest [] (map form_shape (items_lines all
 whole_items [] n = tt
 whole_items (i ∷ all) n =
     let q : IsWhole i = whole_item i (items_lines all) n in
-    (q, whole_items all (subst (λ (h : Half). Nest (blocks_of h.1) (map form_shape (items_lines all))) (built_item i [] q) (nest_after (item_lines i) (items_lines all) ([], None) tt n)))
+    (q, whole_items all (subst (λ (h : Building). Nest (blocks_of h.1) (map form_shape (items_lines all))) (built_item i [] q) (nest_after (item_lines i) (items_lines all) ([], None) tt n)))
 
 pub determined : (xs ys : List Item) → Nest [] (map form_shape (items_lines xs)) → items_lines xs ≡ items_lines ys → xs ≡ ys
 determined xs ys n same =
     let of_xs : built (items_lines xs) ≡ (xs, None) = again xs (whole_items xs n) in
     let of_ys : built (items_lines ys) ≡ (ys, None) = again ys (whole_items ys (subst (λ (ls : List Form). Nest [] (map form_shape ls)) same n)) in
-    ap (λ (h : Half). h.0) (sym of_xs ∙ ap built same ∙ of_ys)
+    ap (λ (h : Building). h.0) (sym of_xs ∙ ap built same ∙ of_ys)
 
 -- the lines of declarations build them again
 pub built_again : (forms : List Form) (xs : List Item) → Nest [] (map form_shape forms) → items_lines xs ≡ forms → (built forms).0 ≡ xs
 built_again forms xs n same =
     let of_xs : built (items_lines xs) ≡ (xs, None) = again xs (whole_items xs (subst (λ (ls : List Form). Nest [] (map form_shape ls)) (sym same) n)) in
-    ap (λ (h : Half). h.0) (ap built (sym same) ∙ of_xs)
+    ap (λ (h : Building). h.0) (ap built (sym same) ∙ of_xs)

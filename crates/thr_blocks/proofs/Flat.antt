@@ -15,7 +15,7 @@ use Rattle.thr_blocks.specs.declared.frame.Opener.{Opener}
 use Rattle.thr_blocks.specs.declared.frame.Opener.TheVariants as opener
 use Rattle.thr_blocks.specs.declared.frame.Frame.{Frame}
 use Rattle.thr_blocks.specs.declared.frame.OpenRoutine.{OpenRoutine}
-use Rattle.thr_blocks.specs.Build.{Half, clause, closed, HasParameter}
+use Rattle.thr_blocks.specs.Build.{Building, clause, closed, HasParameter}
 
 -- ---- lines
 
@@ -57,7 +57,7 @@ abbrev pub open_lines : Option OpenRoutine → List Form
 open_lines None = []
 open_lines (Some r) = routine_with r r.frames (body_lines r.body)
 
-abbrev pub half_lines : Half → List Form
+abbrev pub half_lines : Building → List Form
 half_lines h = items_lines h.0 ++ open_lines h.1
 
 -- ---- blocks

@@ -20,13 +20,13 @@ use Rattle.thr_blocks.specs.declared.frame.Part.{Part}
 use Rattle.thr_blocks.specs.declared.frame.Part.TheVariants as part
 use Rattle.thr_blocks.specs.declared.frame.Frame.{Frame}
 use Rattle.thr_blocks.specs.declared.frame.OpenRoutine.{OpenRoutine}
-use Rattle.thr_blocks.specs.Build.{Half, opened, closed, whole, shut, next_part, turn, with_stmt, with_block, put_outside, put_inside, put_at, is_own, HasParameter}
+use Rattle.thr_blocks.specs.Build.{Building, with_parts, closed, whole, block_closed, next_part, next_part_begun, with_stmt, with_block, put_outside, put_inside, put_at, is_own, HasParameter}
 use Rattle.thr_blocks.proofs.Flat.{opener_lines, closer, items_lines, half_lines, half_with, block_of, outer_blocks, routine_block, open_blocks, blocks_of, IsNamed, joined_push, half_push, closed_lines, clause_after}
 
 abbrev pub HasPlace : List Block → Form → Type 0
 HasPlace bs f = nesting_faults bs (form_shape f) ≡ []
 
-pub record Puts (old new : Half) (f : Form) : Type 0 where
+pub record Puts (old new : Building) (f : Form) : Type 0 where
   pub lines : half_lines new ≡ half_lines old ++ filter is_own (f ∷ [])
   pub blocks : blocks_of new.1 ≡ blocks_below (blocks_of old.1) (form_shape f)
   pub named : IsNamed new.1
@@ -193,7 +193,7 @@ finally_is_part (s ∷ body) h = cc
 
 turn_put : (done : List Item) (r : OpenRoutine) (p : Part) (f : Form) (fs : List Frame) → HasParameter r.locals → filter is_own (f ∷ []) ≡ f ∷ [] → IsPart f
     → ((o : Opener) (bs : List Block) → HasPlace (block_of o ∷ bs) f → Turns p o r.body f bs) → HasPlace (open_blocks r.body fs) f
-    → Puts (done, Some (opened r r.locals r.body fs)) (done, Some (turn p r fs)) f
+    → Puts (done, Some (with_parts r r.locals r.body fs)) (done, Some (next_part_begun p r fs)) f
 turn_put done r p f [] q own is_part turns h = absurd (is_part r.body h)
 turn_put done r p f (g ∷ fs) q own is_part turns h =
     let t : Turns p g.opener r.body f (outer_blocks fs) = turns g.opener (outer_blocks fs) h in
@@ -229,7 +229,7 @@ closes_try (opener.Catch first clauses (Some x)) bs h = refl
 closes_try (opener.Finally first) bs h = refl
 
 inner_put : (done : List Item) (r : OpenRoutine) (g : Frame) (fs : List Frame) (f : Form) → HasParameter r.locals → filter is_own (f ∷ []) ≡ f ∷ [] → closer g.opener ≡ f
-    → blocks_below (outer_blocks (g ∷ fs)) (form_shape f) ≡ outer_blocks fs → Puts (done, Some (opened r r.locals r.body (g ∷ fs))) (shut done r (g ∷ fs)) f
+    → blocks_below (outer_blocks (g ∷ fs)) (form_shape f) ≡ outer_blocks fs → Puts (done, Some (with_parts r r.locals r.body (g ∷ fs))) (block_closed done r (g ∷ fs)) f
 inner_put done r g fs f q own is below = record {
   lines = ap (half_with done r fs) (joined_push stmt_lines g.outer (closed g.opener r.body)
       ∙ ap (λ (zs : List Form). body_lines g.outer ++ zs) (closed_lines g.opener r.body ∙ ap (λ (x : Form). opener_lines g.opener ++ (body_lines r.body ++ x ∷ [])) is ∙ sym (append_assoc (opener_lines g.opener) (body_lines r.body) (f ∷ [])))
@@ -246,13 +246,13 @@ no_try [] h = cc
 no_try (s ∷ body) h = cc
 
 endtry_put : (done : List Item) (r : OpenRoutine) (fs : List Frame) → HasParameter r.locals → HasPlace (open_blocks r.body fs) form.Endtry
-    → Puts (done, Some (opened r r.locals r.body fs)) (shut done r fs) form.Endtry
+    → Puts (done, Some (with_parts r r.locals r.body fs)) (block_closed done r fs) form.Endtry
 unfolding form_shape blocks_below
 endtry_put done r [] q h = absurd (no_try r.body h)
 endtry_put done r (g ∷ fs) q h = inner_put done r g fs form.Endtry q refl (closes_try g.opener (outer_blocks fs) h) refl
 
 end_put : (done : List Item) (r : OpenRoutine) (fs : List Frame) → HasParameter r.locals → HasPlace (open_blocks r.body fs) form.End
-    → Puts (done, Some (opened r r.locals r.body fs)) (shut done r fs) form.End
+    → Puts (done, Some (with_parts r r.locals r.body fs)) (block_closed done r fs) form.End
 unfolding form_shape blocks_below
 end_put done r [] q h = record {
   lines = append-nil (items_lines (done ++ whole r ∷ [])) ∙ joined_push item_lines done (whole r)
@@ -282,7 +282,7 @@ no_inner_local (opener.Catch first clauses (Some x)) bs h = cc
 no_inner_local (opener.Finally first) bs h = cc
 
 local_put : (done : List Item) (r : OpenRoutine) (local : List ℕ) (body : List Stmt) (fs : List Frame) → HasParameter r.locals → HasPlace (open_blocks body fs) (form.Local local)
-    → Puts (done, Some (opened r r.locals body fs)) (done, Some (opened r (r.locals ++ local ∷ []) body fs)) (form.Local local)
+    → Puts (done, Some (with_parts r r.locals body fs)) (done, Some (with_parts r (r.locals ++ local ∷ []) body fs)) (form.Local local)
 unfolding form_shape blocks_below
 local_put done r local [] [] q h = record {
   lines = ap (λ (zs : List Form). items_lines done ++ zs) (append-nil (head_lines r.name (r.locals ++ local ∷ [])) ∙ local_head r.name r.locals local q ∙ ap (λ (zs : List Form). zs ++ form.Local local ∷ []) (sym (append-nil (head_lines r.name r.locals))))

@@ -144,8 +144,8 @@ keeps_else e body other p q bs rest n =
     let m = subst (At bs rest) (each_stmt-If stmt_step clause_step e body (Some other)) n in
     let more : List Form = (body_lines other ++ form.End ∷ []) ++ rest in
     let k = p (Then ∷ begun bs) (form.Else ∷ more) (ungroup (Then ∷ begun bs) (body_lines body) (form.Else ∷ (body_lines other ++ form.End ∷ [])) rest m.1) in
-    let turn = outer body (Then ∷ begun bs) (form.Else ∷ more) refl k.1 in
-    let l = q (Otherwise ∷ begun bs) (form.End ∷ rest) (ungroup (Otherwise ∷ begun bs) (body_lines other) (form.End ∷ []) rest turn.1) in
+    let next_part_begun = outer body (Then ∷ begun bs) (form.Else ∷ more) refl k.1 in
+    let l = q (Otherwise ∷ begun bs) (form.End ∷ rest) (ungroup (Otherwise ∷ begun bs) (body_lines other) (form.End ∷ []) rest next_part_begun.1) in
     let end = outer other (Otherwise ∷ begun bs) (form.End ∷ rest) refl l.1 in
     (if_inside bs m.0, each_stmt-If nests_step clause_nests_step e body (Some other) ∙ and_true (body_nests body) (body_nests other) k.0 l.0, end.1)
 
@@ -163,8 +163,8 @@ keeps_finally body final p q bs rest n =
     let m = subst (At bs rest) (each_stmt-TryFinally stmt_step clause_step body final) n in
     let more : List Form = (body_lines final ++ form.Endtry ∷ []) ++ rest in
     let k = p (TryBody ∷ begun bs) (form.Finally ∷ more) (ungroup (TryBody ∷ begun bs) (body_lines body) (form.Finally ∷ (body_lines final ++ form.Endtry ∷ [])) rest m.1) in
-    let turn = outer body (TryBody ∷ begun bs) (form.Finally ∷ more) refl k.1 in
-    let l = q (FinallyBody ∷ begun bs) (form.Endtry ∷ rest) (ungroup (FinallyBody ∷ begun bs) (body_lines final) (form.Endtry ∷ []) rest turn.1) in
+    let next_part_begun = outer body (TryBody ∷ begun bs) (form.Finally ∷ more) refl k.1 in
+    let l = q (FinallyBody ∷ begun bs) (form.Endtry ∷ rest) (ungroup (FinallyBody ∷ begun bs) (body_lines final) (form.Endtry ∷ []) rest next_part_begun.1) in
     let end = outer final (FinallyBody ∷ begun bs) (form.Endtry ∷ rest) refl l.1 in
     (try_inside bs m.0, each_stmt-TryFinally nests_step clause_nests_step body final ∙ and_true (body_nests body) (body_nests final) k.0 l.0, end.1)
 

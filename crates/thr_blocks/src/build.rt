@@ -7,7 +7,7 @@ ghost use Rattle.thr_syntax.specs.declared.tree.Item.{Item};
 ghost use Rattle.thr_text.specs.Blocks.{Line, form_shape, shape_of_line, block_faults, Nest};
 ghost use Rattle.thr_blocks.specs.Trees.{item_nests};
 ghost use Rattle.thr_blocks.specs.Build as Build;
-ghost use Rattle.thr_blocks.specs.Build.{frame, opened, opening, closed, turned, turned_routine, at_else, at_clause, at_finally, next_part, built, is_own};
+ghost use Rattle.thr_blocks.specs.Build.{frame, with_parts, begun_routine, closed, reversed, reversed_routine, at_else, at_clause, at_finally, next_part, built, is_own};
 
 use crate::frame::{Frame, OpenRoutine, Opener, Part};
 use sqlite_items::Items;
@@ -98,7 +98,7 @@ fn next_part(
 
 /// Puts a statement into the innermost block.
 fn with_stmt(routine: OpenRoutine, stmt: Stmt) -> Result<OpenRoutine, AllocError>
-    ensures { IfOk result (λ r. r ≡ opened routine routine.locals (routine.body ++ stmt ∷ []) routine.frames) }
+    ensures { IfOk result (λ r. r ≡ with_parts routine routine.locals (routine.body ++ stmt ∷ []) routine.frames) }
 {
     let OpenRoutine {
         name,
@@ -116,7 +116,7 @@ fn with_stmt(routine: OpenRoutine, stmt: Stmt) -> Result<OpenRoutine, AllocError
 }
 
 fn with_local(routine: OpenRoutine, local: Name) -> Result<OpenRoutine, AllocError>
-    ensures { IfOk result (λ r. r ≡ opened routine (routine.locals ++ local ∷ []) routine.body routine.frames) }
+    ensures { IfOk result (λ r. r ≡ with_parts routine (routine.locals ++ local ∷ []) routine.body routine.frames) }
 {
     let OpenRoutine {
         name,
@@ -139,7 +139,7 @@ fn with_block(
     routine: OpenRoutine,
     opener: Opener,
 ) -> Result<OpenRoutine, AllocError>
-    ensures { IfOk result (λ r. r ≡ opened routine routine.locals [] (routine.frames ++ frame opener routine.body ∷ [])) }
+    ensures { IfOk result (λ r. r ≡ with_parts routine routine.locals [] (routine.frames ++ frame opener routine.body ∷ [])) }
 {
     let OpenRoutine {
         name,
@@ -160,8 +160,8 @@ fn with_block(
 }
 
 /// Begins the next part of the innermost block.
-fn turn(alloc: Global, routine: OpenRoutine, part: Part) -> Result<OpenRoutine, AllocError>
-    ensures { IfOk result (λ r. turned_routine r ≡ Build.turn part (turned_routine routine) (reverse routine.frames)) }
+fn next_part_begun(alloc: Global, routine: OpenRoutine, part: Part) -> Result<OpenRoutine, AllocError>
+    ensures { IfOk result (λ r. reversed_routine r ≡ Build.next_part_begun part (reversed_routine routine) (reverse routine.frames)) }
 {
     let OpenRoutine {
         name,
@@ -190,12 +190,12 @@ fn turn(alloc: Global, routine: OpenRoutine, part: Part) -> Result<OpenRoutine, 
 }
 
 /// Ends the innermost block, or else the routine.
-fn shut(
+fn block_closed(
     alloc: Global,
     items: &mut Items<Item>,
     routine: OpenRoutine,
 ) -> Result<Option<OpenRoutine>, AllocError>
-    ensures { IfOk result (λ o. (items.new, turned o) ≡ Build.shut items.old (turned_routine routine) (reverse routine.frames)) }
+    ensures { IfOk result (λ o. (items.new, reversed o) ≡ Build.block_closed items.old (reversed_routine routine) (reverse routine.frames)) }
 {
     let OpenRoutine {
         name,
@@ -221,8 +221,8 @@ fn shut(
 }
 
 /// Opens a routine.
-fn opened(alloc: Global, name: NameId, parameter: Name) -> Result<OpenRoutine, AllocError>
-    ensures { IfOk result (λ r. r ≡ opening name parameter) }
+fn with_parts(alloc: Global, name: NameId, parameter: Name) -> Result<OpenRoutine, AllocError>
+    ensures { IfOk result (λ r. r ≡ begun_routine name parameter) }
 {
     let mut locals = Items::new(alloc);
     locals.push(parameter)?;
@@ -248,7 +248,7 @@ fn put_outside(
     items: &mut Items<Item>,
     form: Form,
 ) -> Result<Option<OpenRoutine>, AllocError>
-    ensures { IfOk result (λ o. (items.new, turned o) ≡ Build.put_outside items.old form) }
+    ensures { IfOk result (λ o. (items.new, reversed o) ≡ Build.put_outside items.old form) }
 {
     match form {
         Form::Interface(interface) => with_item(items, Item::Interface(interface)),
@@ -263,7 +263,7 @@ fn put_outside(
         Form::Key(name) => with_item(items, Item::Key(name)),
         Form::Once(name) => with_item(items, Item::Once(name)),
         Form::Pipe(name, n) => with_item(items, Item::Pipe(name, n)),
-        Form::Routine(name, parameter) => Ok(Some(opened(alloc, name, parameter)?)),
+        Form::Routine(name, parameter) => Ok(Some(with_parts(alloc, name, parameter)?)),
         _ => Ok(None),
     }
 }
@@ -275,26 +275,26 @@ fn put_inside(
     routine: OpenRoutine,
     form: Form,
 ) -> Result<Option<OpenRoutine>, AllocError>
-    ensures { IfOk result (λ o. (items.new, turned o) ≡ Build.put_inside items.old (turned_routine routine) form) }
+    ensures { IfOk result (λ o. (items.new, reversed o) ≡ Build.put_inside items.old (reversed_routine routine) form) }
 {
     match form {
         Form::Local(name) => Ok(Some(with_local(routine, name)?)),
         Form::Set(v, e) => Ok(Some(with_stmt(routine, Stmt::Set(v, e))?)),
         Form::Say(e) => Ok(Some(with_stmt(routine, Stmt::Say(e))?)),
         Form::If(e) => Ok(Some(with_block(alloc, routine, Opener::If(e))?)),
-        Form::Else => Ok(Some(turn(alloc, routine, Part::Else)?)),
+        Form::Else => Ok(Some(next_part_begun(alloc, routine, Part::Else)?)),
         Form::While(e) => Ok(Some(with_block(alloc, routine, Opener::While(e))?)),
         Form::Try => Ok(Some(with_block(alloc, routine, Opener::Try)?)),
-        Form::Catch(x) => Ok(Some(turn(alloc, routine, Part::Catch(Some(x)))?)),
-        Form::CatchAll => Ok(Some(turn(alloc, routine, Part::Catch(None))?)),
-        Form::Finally => Ok(Some(turn(alloc, routine, Part::Finally)?)),
+        Form::Catch(x) => Ok(Some(next_part_begun(alloc, routine, Part::Catch(Some(x)))?)),
+        Form::CatchAll => Ok(Some(next_part_begun(alloc, routine, Part::Catch(None))?)),
+        Form::Finally => Ok(Some(next_part_begun(alloc, routine, Part::Finally)?)),
         Form::Raise(x) => Ok(Some(with_stmt(routine, Stmt::Raise(x))?)),
         Form::Reraise => Ok(Some(with_stmt(routine, Stmt::Reraise)?)),
         Form::Call(name, e, v) => Ok(Some(with_stmt(routine, Stmt::Call(name, e, v))?)),
         Form::Return(e) => Ok(Some(with_stmt(routine, Stmt::Return(e))?)),
         Form::Exit(e) => Ok(Some(with_stmt(routine, Stmt::Exit(e))?)),
         Form::Dce(call) => Ok(Some(with_stmt(routine, Stmt::Dce(call))?)),
-        Form::Endtry | Form::End => shut(alloc, items, routine),
+        Form::Endtry | Form::End => block_closed(alloc, items, routine),
         _ => Ok(Some(routine)),
     }
 }
@@ -306,7 +306,7 @@ fn put(
     routine: Option<OpenRoutine>,
     form: Form,
 ) -> Result<Option<OpenRoutine>, AllocError>
-    ensures { IfOk result (λ o. (items.new, turned o) ≡ Build.put (items.old, turned routine) form) }
+    ensures { IfOk result (λ o. (items.new, reversed o) ≡ Build.put (items.old, reversed routine) form) }
 {
     match routine {
         None => put_outside(alloc, items, form),
@@ -320,7 +320,7 @@ fn build(
     forms: Vec<Form>,
 ) -> Result<Option<OpenRoutine>, AllocError>
     requires { items.old ≡ [] }
-    ensures { IfOk result (λ o. (items.new, turned o) ≡ built forms.items) }
+    ensures { IfOk result (λ o. (items.new, reversed o) ≡ built forms.items) }
 {
     let mut routine = None;
     for form in forms {
@@ -354,4 +354,9 @@ pub fn lines_determine_items()
 pub fn lines_of_trees_nest()
     ensures nest { (all : List Item) → list_all item_nests all ≡ true → Nest [] (map form_shape (joined (map item_lines all))) }
     ensures trees { (all : List Item) → Nest [] (map form_shape (joined (map item_lines all))) → list_all item_nests all ≡ true }
+{}
+
+/// Lines of their own that nest are the lines of some declarations.
+pub fn lines_that_nest_have_a_tree()
+    ensures { (forms : List Form) → Nest [] (map form_shape forms) → list_all is_own forms ≡ true → (all : List Item) × (joined (map item_lines all) ≡ forms) }
 {}

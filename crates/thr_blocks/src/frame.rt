@@ -6,7 +6,7 @@ use thr_syntax::tree::{Clause, Stmt};
 use thr_values::name::Name;
 use thr_values::number::NameId;
 
-/// An open block in a routine, by the line that opened it and those of its parts that are whole.
+/// An open block in a routine, by the line that with_parts it and those of its parts that are whole.
 #[derive(Drop)]
 pub enum Opener {
     If(Expr),

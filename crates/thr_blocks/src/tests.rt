@@ -26,7 +26,9 @@ fn place(fault: ParseFault) -> (u8, u32) {
     }
 }
 
-/// The first fault of lines of which each is a first word, with `this` where it means the caught exception.
+/// The first fault of lines of which each is a first word, with `this` where it means the caught exception. It goes as
+/// `check_blocks` does, over the two functions that this calls for a line and at the end, so that no line needs the rest of its
+/// words.
 fn first_fault(alloc: Global, text: &[u8]) -> Option<(u8, u32)> {
     let mut blocks = OpenBlocks::new(alloc);
     let mut number = 1u32;

@@ -1,7 +1,11 @@
 //! Scripts and their texts.
 #![tactic(auto)]
 
-pub mod parse;
-pub mod print;
+mod parse;
+mod print;
 #[cfg(test)]
 mod tests;
+
+pub use parse::parse;
+pub use print::print;
+pub use thr_text::fault::{ParseFault, Place};

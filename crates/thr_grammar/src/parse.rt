@@ -1,6 +1,6 @@
 //! Scripts from their texts (docs/script.md, "Reading").
 
-ghost use Rattle.std.specs.Prelude.{◌≡◌, ◌<◌, ◌-◌, ◌^◌, length, IfOk, IfErr};
+ghost use Rattle.std.specs.Prelude.{◌≡◌, ◌<◌, ◌-◌, ◌^◌, [], length, IfOk, IfErr};
 ghost use Rattle.thr_syntax.specs.declared.tree.Script.{Script};
 ghost use Rattle.thr_text.specs.declared.fault.ParseFault.TheVariants as fault;
 ghost use Rattle.thr_text.specs.Reading.{Reads, faults};
@@ -20,6 +20,7 @@ use thr_text::fault::ParseFault;
 pub fn parse(alloc: Global, bytes: &[u8]) -> Result<Script, ParseFault>
     requires { length bytes.now < 2 ^ 32 - 1 }
     ensures reads { IfOk result (λ s. Reads bytes.now s) }
+    ensures faultless { IfOk result (λ s. faults bytes.now ≡ []) }
     ensures only { (s : Script) → Reads bytes.now s → IfOk result (λ t. t ≡ s) }
     ensures fault { IfErr result (λ f. IsFirstStated f (faults bytes.now)) }
     ensures refused { (s : Script) → Reads bytes.now s → IfErr result (λ f. f ≡ fault.NoMemory) }

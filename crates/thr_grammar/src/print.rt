@@ -10,7 +10,6 @@ mod item;
 mod line;
 mod scope;
 mod statement;
-mod word;
 
 use crate::print::item::add_item;
 use crate::print::scope::Scope;

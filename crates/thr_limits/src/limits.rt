@@ -12,7 +12,8 @@ ghost use Rattle.thr_limits.specs.Walks.{opens_at_most, is_body_within, is_claus
 ghost use Rattle.thr_limits.specs.Widths.{nothing, after_words, spelled, is_short_form};
 
 use crate::width::{Scope, Width, add, call_width, cap};
-use thr_syntax::tree::{Clause, Interface, Item, Routine, Script, Stmt};
+use thr_syntax::tree::{Clause, Item, Routine, Script, Stmt};
+use thr_text::fixed::interface_text;
 use thr_values::name::Name;
 use thr_values::number::NameId;
 
@@ -307,15 +308,6 @@ fn is_stmt_short(scope: &Scope, stmt: &Stmt) -> bool
         | Stmt::Return(_)
         | Stmt::Exit(_)
         | Stmt::Dce(_) => true,
-    }
-}
-
-fn interface_text(interface: Interface) -> &'static [u8]
-    ensures { result.now ≡ interface_word interface }
-{
-    match interface {
-        Interface::Exc => b"exc",
-        Interface::Status => b"status",
     }
 }
 

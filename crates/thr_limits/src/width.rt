@@ -9,6 +9,7 @@ ghost use Rattle.thr_limits.specs.Widths.{nothing, after_word, after_words, spel
 
 use thr_syntax::dce::DceCall;
 use thr_syntax::expr::{ExcRef, Expr, Op, Var};
+use thr_text::fixed::{cancel_text, inherit_text, kind_text, operator_text, policy_text};
 use thr_text::head::Head;
 use thr_values::call::CallWord;
 use thr_values::name::Name;
@@ -67,63 +68,6 @@ fn name_at(names: &[Name], at: usize) -> &[u8]
         Some(name) => name.as_slice(),
         None => b"",
     }
-}
-
-fn operator_text(op: Op) -> &'static [u8]
-    ensures { result.now ≡ syntax.operator_word op }
-{
-    match op {
-        Op::Add => b"+",
-        Op::Sub => b"-",
-        Op::Mul => b"*",
-        Op::Div => b"/",
-        Op::Rem => b"%",
-        Op::Equal => b"==",
-        Op::Differs => b"!=",
-        Op::Less => b"<",
-        Op::AtMost => b"<=",
-        Op::Greater => b">",
-        Op::AtLeast => b">=",
-        Op::And => b"and",
-        Op::Or => b"or",
-    }
-}
-
-fn policy_text(policy: Policy) -> &'static [u8]
-    ensures { result.now ≡ fixed.policy_word policy }
-{
-    match policy {
-        Policy::Fifo => b"SCHED_FIFO",
-        Policy::Rr => b"SCHED_RR",
-        Policy::Fg => b"SCHED_FG_NP",
-        Policy::Bg => b"SCHED_BG_NP",
-    }
-}
-
-fn kind_text(kind: Kind) -> &'static [u8]
-    ensures { result.now ≡ fixed.kind_word kind }
-{
-    match kind {
-        Kind::Fast => b"MUTEX_FAST_NP",
-        Kind::Recursive => b"MUTEX_RECURSIVE_NP",
-        Kind::Nonrecursive => b"MUTEX_NONRECURSIVE_NP",
-    }
-}
-
-fn inherit_text(inherits: bool) -> &'static [u8]
-    ensures { result.now ≡ fixed.inherit_word inherits }
-{
-    if inherits {
-        b"PTHREAD_INHERIT_SCHED"
-    } else {
-        b"PTHREAD_DEFAULT_SCHED"
-    }
-}
-
-fn cancel_text(on: bool) -> &'static [u8]
-    ensures { result.now ≡ fixed.cancel_word on }
-{
-    if on { b"CANCEL_ON" } else { b"CANCEL_OFF" }
 }
 
 impl Width {

@@ -323,13 +323,13 @@ says names (i ∷ items) end built declared blocks limits =
 -- A script that keeps the rules and whose lines are all built says numbers.
 pub formed_scripts_say_numbers : (s : Script) → Formed s → first_unbuilt s ≡ None → IsBuilt s
 formed_scripts_say_numbers s formed none =
-    says s.names s.items (length (own_lines s) + 2) (lines_built s none).1 formed.names formed.blocks formed.limits
+    says s.names s.items (length (own_lines s) + 2) (lines_built s none).1 formed.names formed.blocks formed.names_and_limits
 
 -- ---- how many lines there are
 
 pub formed_scripts_are_short : (s : Script) → Formed s → length (lines_of s) ≤ 20000
 formed_scripts_are_short s formed =
-    let short = (keeps_limits (length (own_lines s) + 2) (numbered_lines 2 (own_lines s)) formed.limits).short in
+    let short = (keeps_limits (length (own_lines s) + 2) (numbered_lines 2 (own_lines s)) formed.names_and_limits).short in
     omega (arith, short, each_line_once s, length-map (joined (map (item_words s.names) s.items)) (map word_of))
 
 body_length : (ns : List ℤ) → length (body_lines (map say ns)) ≡ length ns

@@ -52,9 +52,9 @@ abbrev pub pipe_number : List Word → Option ℤ
 pipe_number (Name text ∷ Num n ∷ []) = Some n
 pipe_number _ = None
 
-abbrev pub is_outside : Option ℤ → ℕ → Bool
-is_outside None high = false
-is_outside (Some n) high = not (is_within n 1 high)
+abbrev pub is_beyond_range : Option ℤ → ℕ → Bool
+is_beyond_range None high = false
+is_beyond_range (Some n) high = not (is_within n 1 high)
 
 abbrev pub is_interface : Option Head → Bool
 is_interface (Some head.Interface) = true

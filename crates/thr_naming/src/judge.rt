@@ -7,7 +7,7 @@ ghost use Rattle.thr_text.specs.declared.object.Object.TheVariants as Object;
 ghost use Rattle.thr_text.specs.Tables.{declared_in, kind_in, entries_of};
 ghost use Rattle.thr_text.specs.NameFaults.{is_again_word, is_undeclared, is_misused, is_out_of_range, is_of_kind, sense_of_kind, words_in, name_faults};
 ghost use Rattle.thr_text.specs.Refusals.{IsFirst};
-ghost use Rattle.thr_naming.specs.Judging.{is_further, start, after, limit_number, pipe_number, is_outside, least, misfit, first_misfit, or_no_main, or_too_long, place_of, table_of};
+ghost use Rattle.thr_naming.specs.Judging.{is_further, start, after, limit_number, pipe_number, is_beyond_range, least, misfit, first_misfit, or_no_main, or_too_long, place_of, table_of};
 ghost use Rattle.thr_naming.specs.Placing.{seen};
 
 use crate::context::{Context, declares};
@@ -83,8 +83,8 @@ fn pipe_number(words: &[Word]) -> Option<i64>
     }
 }
 
-fn is_outside(number: Option<i64>, high: u32) -> bool
-    ensures { result ≡ is_outside number high }
+fn is_beyond_range(number: Option<i64>, high: u32) -> bool
+    ensures { result ≡ is_beyond_range number high }
 {
     match number {
         Some(number) => number < 1 || number > i64::from(high),
@@ -97,8 +97,8 @@ fn is_out_of_range(head: Head, words: &[Word]) -> bool
     ensures { result ≡ is_out_of_range (Some head) words.now }
 {
     match head {
-        Head::Limit => is_outside(limit_number(words), 1_000_000),
-        Head::Pipe => is_outside(pipe_number(words), 4096),
+        Head::Limit => is_beyond_range(limit_number(words), 1_000_000),
+        Head::Pipe => is_beyond_range(pipe_number(words), 4096),
         _ => false,
     }
 }

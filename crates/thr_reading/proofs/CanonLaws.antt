@@ -1,8 +1,9 @@
 -- The canonical text of a script that keeps the rules is read as that script.
-use Rattle.std.proofs.Common.{◌≡◌, ℕ, ◌+◌, ◌≤◌, Bool, true, false, List, [], ◌∷◌, ◌++◌, map, length, None, refl, sym, ap, subst, ◌∙◌, arith}
+use Rattle.std.proofs.Common.{◌≡◌, ℕ, ◌+◌, ◌≤◌, Bool, true, false, List, [], ◌∷◌, ◌++◌, map, length, length-append, None, refl, sym, ap, subst, ◌∙◌, arith}
 use Rattle.std.specs.Prelude.{◌||◌, ◌&&◌, not, nat_lt, codes}
 use Rattle.std.specs.List.{list_all, list_any, join_with_byte}
 use Rattle.std.specs.Str.Lines.{lines}
+use Rattle.std.proofs.lemmas.Bool.{ltb-false}
 use Rattle.std.proofs.lemmas.List.{length-map}
 use Rattle.thr_syntax.specs.declared.form.Form.{Form}
 use Rattle.thr_syntax.specs.declared.form.Form.TheVariants as form
@@ -176,7 +177,7 @@ short_text s h =
     let numbered = numbered_lines 2 (own_lines s) in
     let n : length (lines (canon s)) ≡ length (header ∷ written own) = ap length (canon_lines s h) in
     let m : length own ≡ length (own_lines s) = sym (length-map own (map word_of)) ∙ ap length (own_spelled s h) in
-    let short : length (own_lines s) + 2 ≤ 20001 = (names_are_short (length (own_lines s) + 2) numbered h.limits).0 in
+    let short : length (own_lines s) + 2 ≤ 20001 = (names_are_short (length (own_lines s) + 2) numbered h.names_and_limits).0 in
     omega (arith, n, m, short, one_more header (written own), length-map own (join_with_byte 32))
 
 pub canon_again : (s : Script) → Formed s → Reads (canon s) s
@@ -186,3 +187,28 @@ canon_again s h = record {
   formed = h;
   short = short_text s h;
 }
+
+-- ---- how long it is
+
+short_line : (ts : List (List ℕ)) → IsWritten ts → length (join_with_byte 32 ts) ≤ 240
+short_line ts h =
+    let same : length (join_with_byte 32 ts) ≡ length (line_text (map word_of ts)) = ap length h.text in
+    let short : length (line_text (map word_of ts)) ≤ 240 = ltb-false 240 (length (line_text (map word_of ts))) (faultless (line_text (map word_of ts)) h.faultless).short in
+    omega (arith, same, short)
+
+short_lines : (tss : Texts) → AreWritten tss → length (joined (map line tss)) ≤ 241 * length tss
+short_lines [] h = omega arith
+short_lines (ts ∷ tss) h =
+    omega (arith, length-append (line ts) (joined (map line tss)), length-append (join_with_byte 32 ts) (10 ∷ []), short_line ts h.0, short_lines tss h.1)
+
+header_length : length (line (codes "dcethr" ∷ codes "1" ∷ [])) ≡ 9
+header_length = refl
+
+pub canon_short : (s : Script) → Formed s → length (canon s) ≤ 4820000
+canon_short s h =
+    let own = spelled_lines s.names [] (tree_lines s) in
+    let first = line (codes "dcethr" ∷ codes "1" ∷ []) in
+    let same : length (canon s) ≡ length (first ++ joined (map line own)) = ap (λ (tss : Texts). length (first ++ joined (map line tss))) (sym (formed_words s h)) in
+    let m : length own ≡ length (own_lines s) = sym (length-map own (map word_of)) ∙ ap length (own_spelled s h) in
+    let short : length (own_lines s) + 2 ≤ 20001 = (names_are_short (length (own_lines s) + 2) (numbered_lines 2 (own_lines s)) h.names_and_limits).0 in
+    omega (arith, same, m, short, length-append first (joined (map line own)), header_length, short_lines own (texts_written s h))

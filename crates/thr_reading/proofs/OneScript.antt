@@ -145,7 +145,7 @@ pub formed_scopes : (s : Script) → Formed s → AreScopes s.names [] (own_line
 formed_scopes s h =
     let numbered = numbered_lines 2 (own_lines s) in
     let same : words_in numbered ≡ own_lines s = words_numbered 2 (own_lines s) in
-    let own = names_are_short (length (own_lines s) + 2) numbered h.limits in
+    let own = names_are_short (length (own_lines s) + 2) numbered h.names_and_limits in
     let scopes : AreScopes (keys_of (entries_of (words_in numbered))) [] (words_in numbered) = names_are_scopes (length (own_lines s) + 2) numbered (subst HaveNoFormFault (sym same) (forms_have_no_fault (own_lines s) h.forms)) own.1 in
     let names : keys_of (entries_of (own_lines s)) ≡ s.names = entry_names (own_lines s) ∙ sym h.names in
     subst (λ (ns : List (List ℕ)). AreScopes ns [] (own_lines s)) names (subst (λ (ls : Lines). AreScopes (keys_of (entries_of ls)) [] ls) same scopes)
@@ -153,7 +153,7 @@ formed_scopes s h =
 pub formed_resolved : (s : Script) → Formed s → resolved_lines s.names [] (own_lines s) ≡ tree_lines s
 formed_resolved s h =
     let numbered = numbered_lines 2 (own_lines s) in
-    let own = names_are_short (length (own_lines s) + 2) numbered h.limits in
+    let own = names_are_short (length (own_lines s) + 2) numbered h.names_and_limits in
     let same : words_in numbered ≡ own_lines s = words_numbered 2 (own_lines s) in
     let range : AreInRange (own_lines s) = subst AreInRange same (all_in_range (words_in numbered) nothing_above numbered (first_nil _ _ own.1)) in
     let spelled : texts_words (spelled_lines s.names [] (tree_lines s)) ≡ own_lines s = own_spelled s h in

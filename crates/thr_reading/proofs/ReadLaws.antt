@@ -184,7 +184,7 @@ formed_again bytes items h is =
       numbers = (tt, subst HaveNumbers (sym is) (numbers_fit (kept_entries bytes) [] (kept_words bytes) (lines_faultless bytes h)));
       forms = subst HaveForms (sym same) (good_lines 1 false (lines bytes) h.scan).forms;
       blocks = blocks_renumbered (end_of bytes) (length (own_lines s) + 2) [] (script_lines bytes) (numbered_lines 2 (own_lines s)) renumbered h.blocks;
-      limits = short_names (length (own_lines s) + 2) (numbered_lines 2 (own_lines s))
+      names_and_limits = short_names (length (own_lines s) + 2) (numbered_lines 2 (own_lines s))
           (let short : 1 + length (lines bytes) ≤ 20001 = names.0 in omega (arith, count, fewer_lines 1 (lines bytes) h.scan))
           (own_renumbered (end_of bytes) (length (own_lines s) + 2) (script_lines bytes) (numbered_lines 2 (own_lines s)) renumbered names.1);
     }
@@ -202,7 +202,7 @@ reads_script bytes items h is = record {
 pub read_faultfree : (bytes : List ℕ) (s : Script) → Reads bytes s → AreFaultfree bytes
 read_faultfree bytes s r =
     let renumbered : words_in (numbered_lines 2 (own_lines s)) ≡ words_in (script_lines bytes) = words_numbered 2 (own_lines s) ∙ sym r.words in
-    let own = names_are_short (length (own_lines s) + 2) (numbered_lines 2 (own_lines s)) r.formed.limits in
+    let own = names_are_short (length (own_lines s) + 2) (numbered_lines 2 (own_lines s)) r.formed.names_and_limits in
     record {
       scan = r.plain;
       blocks = blocks_renumbered (length (own_lines s) + 2) (end_of bytes) [] (numbered_lines 2 (own_lines s)) (script_lines bytes) renumbered r.formed.blocks;

@@ -205,8 +205,7 @@ blocks_below bs Closes = tail_of bs
 blocks_below bs Returns = begun bs
 blocks_below bs Reraises = begun bs
 
--- No line of these has one of the faults F8 to F12 below these open blocks, and no block is left open. Those of `return`,
--- `reraise` and `this` don't touch how blocks nest.
+-- The faults F8 to F12 of a line: those of `return`, `reraise` and `this` don't touch how blocks nest.
 abbrev pub nesting_faults : List Block → Shape → List ℕ
 nesting_faults bs shape =
     when (is_inside bs shape) 8
@@ -215,6 +214,7 @@ nesting_faults bs shape =
     ++ (when (is_beside_finally bs shape) 11
     ++ when (is_without_clause bs shape) 12)))
 
+-- No line of these has one of the faults F8 to F12 below these open blocks, and no block is left open.
 abbrev pub Nest : List Block → List Shape → Type 0
 Nest bs [] = bs ≡ []
 Nest bs (shape ∷ shapes) = (nesting_faults bs shape ≡ []) × Nest (blocks_below bs shape) shapes
@@ -234,11 +234,6 @@ shape_of_line words = shape_at (head_of_line words)
 
 abbrev pub mentions_this : List Word → Bool
 mentions_this words = list_any (is_one_of (codes "this" ∷ [])) words
-
--- The blocks that are open below these lines.
-unfoldable pub blocks_after : List Block → List (List Word) → List Block
-blocks_after bs [] = bs
-blocks_after bs (l ∷ ls) = blocks_after (blocks_below bs (shape_of_line l)) ls
 
 -- Each of these faults, at this line.
 abbrev pub at_line : ℕ → List ℕ → List (ℕ × ℕ)

@@ -45,10 +45,6 @@ locals_on _ locals own = locals ++ own
 abbrev pub locals_below : List (List ℕ) → List Word → List (List ℕ)
 locals_below locals words = locals_on (head_of_line words) locals (own_in words)
 
-unfoldable pub locals_after : List (List ℕ) → List (List Word) → List (List ℕ)
-locals_after locals [] = locals
-locals_after locals (l ∷ ls) = locals_after (locals_below locals l) ls
-
 -- ---- what a name stands for
 
 -- A name is a parameter or local, the name of something of a kind, or nothing.
@@ -126,7 +122,7 @@ test_name test entries locals _ = false
 abbrev pub is_undeclared : List Entry → List (List ℕ) → Placed → Bool
 is_undeclared entries locals x = (refers x.0 && is_a_name x.1) && test_name is_unknown entries locals x.1
 
--- The word is a name that refers, and is of another kind than its place asks.
+-- The word is a name that refers, and doesn't stand for what its place asks.
 abbrev pub is_misused : List Entry → List (List ℕ) → Placed → Bool
 is_misused entries locals x = (refers x.0 && is_a_name x.1) && test_name (λ s. not (suits x.0 s)) entries locals x.1
 

@@ -95,7 +95,7 @@ pub record Formed (s : Script) : Type 0 where
   pub numbers : HaveNumbers (lines_of s)
   pub forms : HaveForms (own_lines s)
   pub blocks : block_faults (length (own_lines s) + 2) [] (numbered_lines 2 (own_lines s)) ≡ []
-  pub limits : name_faults (length (own_lines s) + 2) (numbered_lines 2 (own_lines s)) ≡ []
+  pub names_and_limits : name_faults (length (own_lines s) + 2) (numbered_lines 2 (own_lines s)) ≡ []
 
 -- The bytes are the text of this script: no line has a fault by itself, the words of the lines after the first are those of
 -- the script's own lines, the script keeps the rules, and there are at most 20,000 lines.

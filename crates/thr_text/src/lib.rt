@@ -4,6 +4,7 @@
 
 pub mod block;
 pub mod fault;
+pub mod fixed;
 pub mod head;
 pub mod laws;
 pub mod names;

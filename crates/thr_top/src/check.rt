@@ -10,8 +10,7 @@ ghost use Rattle.thr_top.specs.Answers.{IsRunOne, IsCheck, IsScript, Refuses, Ch
 use crate::answer::{give, refusal};
 use crate::command::{Status, Word, asks_check};
 use std::alloc::Global;
-use thr_grammar::parse::parse;
-use thr_grammar::print::print;
+use thr_grammar::{parse, print};
 use thr_syntax::tree::Script;
 use thr_text::fault::{ParseFault, Place};
 use thr_wire::fault::WireFault;
@@ -19,12 +18,12 @@ use thr_wire::whole::read_all;
 use thr_wire::wire::{Sink, Source};
 
 /// How many bytes a script has at most.
-pub const MAX_SCRIPT: u64 = 1048576;
+pub(crate) const MAX_SCRIPT: u64 = 1048576;
 
 const USAGE: &[u8] = b"usage: dcethr run W | check | verify | report | make N T | trial N W\n";
 
 /// Writes what a fault is refused with.
-pub fn refuse<K: Sink>(alloc: Global, place: Place, sink: &mut K) -> Status
+pub(crate) fn refuse<K: Sink>(alloc: Global, place: Place, sink: &mut K) -> Status
     ensures refused { (input : List ℕ) → length input ≤ max_script → (pass : ℕ) → first_of (faults input) ≡ Some (pass, place.line, place.number) → Ends (Refuses input) (K.held sink.old) (K.held sink.new) result.0 }
     ensures status { (result.0 ≡ 2) ⊎ ((result.0 ≡ 5) ⊎ (result.0 ≡ 4)) }
     ensures write { result.0 ≡ 4 → Rose (K.faults sink.old) (K.faults sink.new) }

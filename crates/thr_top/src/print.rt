@@ -9,7 +9,7 @@ ghost use Rattle.thr_top.specs.Answers.{one_line};
 ghost use Rattle.thr_top.specs.Printing.{what_text, plain_line, plain_lines, stop_text};
 
 use std::alloc::{AllocError, Global};
-use thr_grammar::print::print;
+use thr_grammar::print;
 use thr_machine::place::body_of;
 use thr_syntax::journal::Journal;
 use thr_syntax::tree::Script;

@@ -38,7 +38,7 @@ const ALL_SORTS_PLAIN: &str =
     "dcethr 1\ninterface status\nlimit 10\nshared x 0\nexception e_1\nstatus s 5\nmutex m\nmutexattr b\ncond c\nattr t\nkey k\nonce o\npipe p 1\nroutine w a\nlocal v\nset v + a * -2 not x\nif exc_matches e_1 s\nelse\nend\ntry\nraise e_1\ncatch s\nset v exc_get_status this\nreraise\ncatch_all\nendtry\ntry\nwhile < v 3\ncall w err v\nend\nfinally\npthread_mutex_init m default\npthread_mutex_init m b\nendtry\nreturn self\nend\nroutine main a\ncall w 1\npthread_create x t w a\npthread_keycreate k none\npthread_setcancel CANCEL_OFF x\npthread_setscheduler a SCHED_RR 12 x\npthread_exit 0\nend\n";
 
 /// The words, parted by spaces, the input, and the status and the text that they give.
-const CASES: [(&str, &str, u8, &str); 56] = [
+const CASES: [(&str, &str, u8, &str); 57] = [
     ("run 1", SEVEN, 0, SEVEN_JOURNAL),
     ("run 1", MANY, 0, MANY_JOURNAL),
     ("run 1", NONE_SAID, 0, NONE_SAID_JOURNAL),
@@ -203,6 +203,12 @@ const CASES: [(&str, &str, u8, &str); 56] = [
         "refused F17 line 4\n",
     ),
     ("check", "dcethr 1\n", 2, "refused F18 line 2\n"),
+    (
+        "check",
+        "dcethr 1\nroutine main a\nsay 9223372036854775808\nend\n",
+        2,
+        "refused F3 line 3\n",
+    ),
     // names and limits at their edges
     (
         "check",
@@ -362,7 +368,7 @@ fn the_limit_on_bytes_is_exact(rt: HostRuntime) -> Result<(), Fail> {
 
 /// A text of repeated lines between others: before, the line, how often, after, and what `check` answers, where the empty text
 /// says that the script is accepted.
-const LIMITS: [(&str, &str, u32, &str, &str); 12] = [
+const LIMITS: [(&str, &str, u32, &str, &str); 10] = [
     // 20,000 lines and one more
     ("dcethr 1\nroutine main a\n", "say 1\n", 19997, "end\n", ""),
     (
@@ -387,21 +393,6 @@ const LIMITS: [(&str, &str, u32, &str, &str); 12] = [
         19998,
         "",
         "refused F18 line 20001\n",
-    ),
-    // the routine is at depth 1
-    (
-        "dcethr 1\nroutine main a\n",
-        "while 1\n",
-        31,
-        "",
-        "refused F8 line 34\n",
-    ),
-    (
-        "dcethr 1\nroutine main a\n",
-        "while 1\n",
-        32,
-        "",
-        "refused F8 line 35\n",
     ),
     // the parameter is one of 16 locals
     ("dcethr 1\nroutine main a\n", "local b@\n", 15, "end\n", ""),
@@ -443,22 +434,32 @@ fn add_numbered(alloc: Global, text: &mut Vec<u8>, line: &str, number: u32) -> R
     Ok(())
 }
 
+/// The text of so many of these lines between others.
+fn repeated(alloc: Global, before: &str, line: &str, count: u32, after: &str) -> Result<Vec<u8>, Fail> {
+    let mut text = Vec::from_slice(alloc, before.as_bytes())?;
+    for number in 0..count {
+        add_numbered(alloc, &mut text, line, number)?;
+    }
+    text.extend_from_slice(after.as_bytes())?;
+    Ok(text)
+}
+
 #[test]
 fn the_limits_of_a_script_are_exact(rt: HostRuntime) -> Result<(), Fail> {
     let alloc = rt.alloc();
     let words = words_of(alloc, "check")?;
-    for (before, line, count, after, text) in LIMITS {
-        let mut script = Vec::from_slice(alloc, before.as_bytes())?;
-        for number in 0..count {
-            add_numbered(alloc, &mut script, line, number)?;
-        }
-        script.extend_from_slice(after.as_bytes())?;
-        let mut source = GoodSource::new(script);
+    for (before, line, count, after, refusal) in LIMITS {
+        let has_words = line != "\n" && line != "#\n";
+        let canonical = repeated(alloc, before, line, if has_words { count } else { 0 }, after)?;
+        let mut source = GoodSource::new(repeated(alloc, before, line, count, after)?);
         let mut sink = GoodSink::new(alloc);
         let Status(got) = top(alloc, words.as_slice(), &mut source, &mut sink);
-        assert_eq!(rt; got, if text.is_empty() { 0 } else { 2 }, "{line}: {count}");
-        if !text.is_empty() {
-            assert_eq!(rt; sink.as_slice(), text.as_bytes(), "{line}: {count}");
+        if refusal.is_empty() {
+            assert_eq!(rt; got, 0, "{line}: {count}");
+            assert_eq!(rt; sink.as_slice(), canonical.as_slice(), "{line}: {count}");
+        } else {
+            assert_eq!(rt; got, 2, "{line}: {count}");
+            assert_eq!(rt; sink.as_slice(), refusal.as_bytes(), "{line}: {count}");
         }
     }
     Ok(())

@@ -13,7 +13,7 @@ use crate::command::{Status, Word, needs_workers};
 use crate::print::journal_text;
 use crate::run::history_of;
 use std::alloc::Global;
-use thr_grammar::parse::parse;
+use thr_grammar::parse;
 use thr_machine::unbuilt::first_unbuilt;
 use thr_syntax::tree::Script;
 use thr_text::fault::ParseFault;

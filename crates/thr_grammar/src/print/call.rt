@@ -10,7 +10,7 @@ use crate::print::line::{
     add_with_three, add_with_three_and_value, add_with_two, add_with_two_and_value, add_with_value,
 };
 use crate::print::scope::Scope;
-use crate::print::word::{cancel_text, inherit_text, kind_text, policy_text};
+use thr_text::fixed::{cancel_text, inherit_text, kind_text, policy_text};
 use std::alloc::AllocError;
 use thr_syntax::dce::DceCall;
 use thr_text::head::Head;

@@ -6,7 +6,7 @@ ghost use Rattle.thr_syntax.specs.Spelling.{expr_words};
 ghost use Rattle.thr_grammar.specs.Printing.{scope_of, spaced};
 
 use crate::print::scope::Scope;
-use crate::print::word::operator_text;
+use thr_text::fixed::operator_text;
 use std::alloc::AllocError;
 use thr_syntax::expr::Expr;
 

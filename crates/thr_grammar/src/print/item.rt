@@ -9,7 +9,7 @@ use crate::print::line::{
 };
 use crate::print::scope::Scope;
 use crate::print::statement::add_body;
-use crate::print::word::interface_text;
+use thr_text::fixed::interface_text;
 use std::alloc::AllocError;
 use thr_syntax::tree::{Item, Routine};
 use thr_text::head::Head;

@@ -4,6 +4,7 @@ use Rattle.std.proofs.lemmas.Result.{err_from_is_err_and}
 use Rattle.thr_text.specs.Refusals.{IsFirst}
 use Rattle.thr_text.specs.Blocks.{block_faults}
 use Rattle.thr_text.specs.NameFaults.{name_faults}
+use Rattle.thr_reading.proofs.ReadLaws.{no_faults}
 use Rattle.thr_reading.proofs.OneScript.{one_script}
 use Rattle.thr_grammar.proofs.ParseLaws.{Passed, scan_stated, blocks_stated, names_stated, scan_never, blocks_never, names_never, same_blocks, same_names, forms_nesting, forms_are_own, script_read, passed_of}
 use Rattle.thr_grammar.proofs.parse.parse.Goals as goal
@@ -62,3 +63,6 @@ returns-clause-only c = λ s reads.
     one_script c.args.bytes.now _ s
     (script_read c.args.bytes.now c.as_slice-lines.result.now c.in_ok-table.table c.in_ok-forms.forms.items c.in_ok-items.items c.in_ok-names.names p
     (c.in_ok-items.ensures.own (forms_are_own c.args.bytes.now c.as_slice-lines.result.now c.in_ok-table.table c.in_ok-forms.forms.items p)) c.in_ok-names.ensures.names) reads
+
+pub returns-clause-faultless : goal.returns-clause-faultless
+returns-clause-faultless c = no_faults c.args.bytes.now (passed_of c.args.bytes.now c.in_ok-reading.reading.end c.in_ok-reading.reading.lines.items c.as_slice-lines.result.now c.in_ok-table.table c.in_ok-forms.forms.items c.in_ok-reading.ensures.plain c.in_ok-reading.ensures.lines c.in_ok-reading.ensures.end c.as_slice-lines.ensures.value c.in_ok-check_blocks.ensures.ok c.in_ok-table.ensures.ok c.in_ok-table.ensures.names c.in_ok-forms.ensures.ok).faultfree

@@ -1,4 +1,4 @@
-//! Fixed words.
+//! The fixed words of lines as texts.
 
 ghost use Rattle.std.specs.Prelude.{◌≡◌};
 ghost use Rattle.thr_values.specs.Words as fixed;
@@ -9,7 +9,8 @@ use thr_syntax::tree::Interface;
 use thr_values::reply::Kind;
 use thr_values::scheduling::Policy;
 
-pub(crate) fn operator_text(op: Op) -> &'static [u8]
+/// The word of an operator (docs/script.md, "Expressions").
+pub fn operator_text(op: Op) -> &'static [u8]
     ensures { result.now ≡ spelling.operator_word op }
 {
     match op {
@@ -29,7 +30,8 @@ pub(crate) fn operator_text(op: Op) -> &'static [u8]
     }
 }
 
-pub(crate) fn interface_text(interface: Interface) -> &'static [u8]
+/// The word of an interface (docs/script.md, "Lines").
+pub fn interface_text(interface: Interface) -> &'static [u8]
     ensures { result.now ≡ spelling.interface_word interface }
 {
     match interface {
@@ -38,7 +40,8 @@ pub(crate) fn interface_text(interface: Interface) -> &'static [u8]
     }
 }
 
-pub(crate) fn policy_text(policy: Policy) -> &'static [u8]
+/// The word of a policy (docs/script.md, "Calls").
+pub fn policy_text(policy: Policy) -> &'static [u8]
     ensures { result.now ≡ fixed.policy_word policy }
 {
     match policy {
@@ -49,7 +52,8 @@ pub(crate) fn policy_text(policy: Policy) -> &'static [u8]
     }
 }
 
-pub(crate) fn kind_text(kind: Kind) -> &'static [u8]
+/// The word of a kind of mutexes (docs/script.md, "Calls").
+pub fn kind_text(kind: Kind) -> &'static [u8]
     ensures { result.now ≡ fixed.kind_word kind }
 {
     match kind {
@@ -59,7 +63,8 @@ pub(crate) fn kind_text(kind: Kind) -> &'static [u8]
     }
 }
 
-pub(crate) fn inherit_text(inherits: bool) -> &'static [u8]
+/// The word for taking policy and priority from the maker, or not (docs/script.md, "Calls").
+pub fn inherit_text(inherits: bool) -> &'static [u8]
     ensures { result.now ≡ fixed.inherit_word inherits }
 {
     if inherits {
@@ -69,7 +74,8 @@ pub(crate) fn inherit_text(inherits: bool) -> &'static [u8]
     }
 }
 
-pub(crate) fn cancel_text(on: bool) -> &'static [u8]
+/// The word for a cancelability that is on or off (docs/script.md, "Calls").
+pub fn cancel_text(on: bool) -> &'static [u8]
     ensures { result.now ≡ fixed.cancel_word on }
 {
     if on { b"CANCEL_ON" } else { b"CANCEL_OFF" }
