@@ -160,7 +160,11 @@ fn with_block(
 }
 
 /// Begins the next part of the innermost block.
-fn next_part_begun(alloc: Global, routine: OpenRoutine, part: Part) -> Result<OpenRoutine, AllocError>
+fn next_part_begun(
+    alloc: Global,
+    routine: OpenRoutine,
+    part: Part,
+) -> Result<OpenRoutine, AllocError>
     ensures { IfOk result (λ r. reversed_routine r ≡ Build.next_part_begun part (reversed_routine routine) (reverse routine.frames)) }
 {
     let OpenRoutine {

@@ -7,7 +7,7 @@ use Rattle.thr_syntax.specs.declared.tree.Item.{Item}
 use Rattle.thr_syntax.specs.Lines.{joined, clause_form, body_lines, item_lines}
 use Rattle.thr_syntax.specs.Spelling.{Scope, form_words}
 use Rattle.thr_syntax.specs.Canon.{line, scope_in}
-use Rattle.thr_grammar.specs.declared.print.scope.Scope as code
+use Rattle.thr_grammar.specs.declared.printing.scope.Scope as code
 
 -- The names by which a printer spells.
 abbrev pub scope_of : code.Scope → Scope

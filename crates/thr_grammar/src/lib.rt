@@ -1,11 +1,11 @@
 //! Scripts and their texts.
 #![tactic(auto)]
 
-mod parse;
-mod print;
+mod parsing;
+mod printing;
 #[cfg(test)]
 mod tests;
 
-pub use parse::parse;
-pub use print::print;
+pub use parsing::parse;
+pub use printing::print;
 pub use thr_text::fault::{ParseFault, Place};

@@ -1,6 +1,6 @@
 //! Scripts and their canonical texts.
 
-use crate::print::print;
+use crate::printing::print;
 use sqlite_items::{Boxed, Items};
 use std::alloc::Global;
 use std::test::Fail;

@@ -435,7 +435,13 @@ fn add_numbered(alloc: Global, text: &mut Vec<u8>, line: &str, number: u32) -> R
 }
 
 /// The text of so many of these lines between others.
-fn repeated(alloc: Global, before: &str, line: &str, count: u32, after: &str) -> Result<Vec<u8>, Fail> {
+fn repeated(
+    alloc: Global,
+    before: &str,
+    line: &str,
+    count: u32,
+    after: &str,
+) -> Result<Vec<u8>, Fail> {
     let mut text = Vec::from_slice(alloc, before.as_bytes())?;
     for number in 0..count {
         add_numbered(alloc, &mut text, line, number)?;
@@ -450,7 +456,13 @@ fn the_limits_of_a_script_are_exact(rt: HostRuntime) -> Result<(), Fail> {
     let words = words_of(alloc, "check")?;
     for (before, line, count, after, refusal) in LIMITS {
         let has_words = line != "\n" && line != "#\n";
-        let canonical = repeated(alloc, before, line, if has_words { count } else { 0 }, after)?;
+        let canonical = repeated(
+            alloc,
+            before,
+            line,
+            if has_words { count } else { 0 },
+            after,
+        )?;
         let mut source = GoodSource::new(repeated(alloc, before, line, count, after)?);
         let mut sink = GoodSink::new(alloc);
         let Status(got) = top(alloc, words.as_slice(), &mut source, &mut sink);
