@@ -1,5 +1,5 @@
 -- Where no line of a statement stands too deep, the statement opens few blocks in one another.
-use Rattle.std.proofs.Common.{◌≡◌, ℕ, ◌+◌, ◌-◌, ◌≤◌, max, true, List, [], ◌∷◌, ◌++◌, map, Option, Some, None, refl, sym, ap, subst, append_assoc, arith}
+use Rattle.std.proofs.Common.{◌≡◌, ℕ, ◌+◌, ◌-◌, ◌≤◌, max, List, [], ◌∷◌, ◌++◌, map, Option, Some, None, refl, subst, append_assoc, arith}
 use Rattle.thr_values.specs.declared.number.NameId.{NameId}
 use Rattle.thr_syntax.specs.declared.expr.Expr.{Expr}
 use Rattle.thr_syntax.specs.declared.form.Form.{Form}

@@ -1,7 +1,7 @@
 -- Each line of a script that keeps the rules keeps the limits.
 use Rattle.std.proofs.Common.{◌≡◌, ℕ, pos, ◌+◌, ◌≤◌, Bool, true, false, List, [], ◌∷◌, ◌++◌, map, length, Option, Some, None, refl, sym, ap, subst, ◌∙◌, arith}
 use Rattle.std.specs.Prelude.{◌&&◌, ◌||◌, not, nat_lt, nat_le, codes}
-use Rattle.std.specs.Fmt.{decimal, signed_decimal}
+use Rattle.std.specs.Fmt.{decimal}
 use Rattle.std.specs.List.{list_all, list_any, join_with_byte}
 use Rattle.std.proofs.lemmas.Bool.Decides.{nat_tests}
 use Rattle.std.proofs.lemmas.List.{length-map}
@@ -21,10 +21,10 @@ use Rattle.thr_text.specs.declared.block.Shape.{Shape}
 use Rattle.thr_text.specs.Faults.{when, word_faults}
 use Rattle.thr_text.specs.Lexing.{word_of, words_of, pieces_of, line_text}
 use Rattle.thr_text.specs.Numbers.{AreSigned, form_numbers, HaveNumbers}
-use Rattle.thr_text.specs.Slots.{is_a_name, can_stand, slots_behind, slots_of, misplaced, fault_after, head_of_line, form_fault}
+use Rattle.thr_text.specs.Slots.{is_a_name, slots_of, misplaced, fault_after, head_of_line, form_fault}
 use Rattle.thr_text.specs.Blocks.{form_shape, shape_of_line}
 use Rattle.thr_text.specs.Tables.{placed, placed_after, placed_in, declared_in_all, declared_in, declarations, entries_of, rest_of}
-use Rattle.thr_text.specs.NameFaults.{Above, above_next, nothing_above, is_within, is_out_of_range, is_again_word, is_second, is_undeclared, is_misused, locals_below, depth_below, passes_limit, name_misfits, words_in}
+use Rattle.thr_text.specs.NameFaults.{Above, nothing_above, is_within, is_out_of_range, is_again_word, is_second, is_undeclared, is_misused, locals_below, depth_below, passes_limit, name_misfits, words_in}
 use Rattle.thr_text.specs.Reading.{own_lines, numbered_lines, HaveForms, Formed}
 use Rattle.thr_lexer.proofs.OfLine.{faultless}
 use Rattle.thr_lexer.proofs.Canon.{line_again}
@@ -235,7 +235,7 @@ all_keep whole above names locals depth (f ∷ fs) own numbers forms scopes name
         named = line_names scope f o forms.0;
       },
       all_keep whole (above ++ l ∷ []) names below (depth_below depth (form_shape f)) fs p.1 numbers.1 forms.2
-      (subst (λ (k : List (List ℕ)). AreScopes names k rest) same scopes.1) next,
+          (subst (λ (k : List (List ℕ)). AreScopes names k rest) same scopes.1) next,
     )
 
 pub lines_keep : (s : Script) → Formed s → AllKeep s.names [] 0 (tree_lines s)
