@@ -1,5 +1,5 @@
 -- What the three passes say of a whole text.
-use Rattle.std.proofs.Common.{◌≡◌, ℕ, Bool, true, false, List, [], ◌∷◌, ◌++◌, map, length, Option, Some, refl, sym, ap, subst, ◌∙◌}
+use Rattle.std.proofs.Common.{◌≡◌, ℕ, true, false, List, [], ◌∷◌, ◌++◌, map, Option, Some, refl, sym, ap, subst, ◌∙◌}
 use Rattle.std.specs.List.{list_all}
 use Rattle.std.specs.Map.{keys_of}
 use Rattle.std.specs.Str.Lines.{lines}
@@ -17,7 +17,7 @@ use Rattle.thr_text.specs.Refusals.{IsFirst}
 use Rattle.thr_text.specs.Tables.{Entry, entries_of}
 use Rattle.thr_blocks.specs.Build.{is_own}
 use Rattle.thr_resolving.specs.Resolving.{resolved_lines}
-use Rattle.thr_reading.proofs.ReadLaws.{AreFaultfree, kept_words, kept_entries, kept_forms, script_of, forms_nest, forms_own, reads_script, read_faultfree}
+use Rattle.thr_reading.proofs.ReadLaws.{AreFaultfree, kept_words, kept_entries, kept_forms, forms_nest, forms_own, reads_script, read_faultfree}
 use Rattle.thr_grammar.specs.Parsing.{IsFirstStated}
 
 -- ---- the fault of a pass is the first stated one where the passes before it find none

@@ -53,7 +53,7 @@ few_lines : (s : Script) → Formed s → has_few_lines s ≡ true
 few_lines s h =
     let numbered = numbered_lines 2 (own_lines s) in
     let own : List (List (List ℕ)) = joined (map (item_words s.names) s.items) in
-    one_more (length (script_words s)) (length own) (length (own_lines s)) (omega arith) (names_are_short (length (own_lines s) + 2) numbered h.limits).0 (sym (length-map own (map word_of)))
+    one_more (length (script_words s)) (length own) (length (own_lines s)) (omega arith) (names_are_short (length (own_lines s) + 2) numbered h.names_and_limits).0 (sym (length-map own (map word_of)))
 
 -- ---- short lines
 
@@ -135,7 +135,7 @@ few_names : (s : Script) → Formed s → has_few_names s ≡ true
 few_names s h =
     let numbered = numbered_lines 2 (own_lines s) in
     let same : words_in numbered ≡ own_lines s = words_numbered 2 (own_lines s) in
-    let all : length (entries_of (own_lines s)) ≤ 1010 = subst (λ (ls : List (List Word)). length (entries_of ls) ≤ 1010) same (names_are_few (length (own_lines s) + 2) numbered h.limits) in
+    let all : length (entries_of (own_lines s)) ≤ 1010 = subst (λ (ls : List (List Word)). length (entries_of ls) ≤ 1010) same (names_are_few (length (own_lines s) + 2) numbered h.names_and_limits) in
     let lines : name_count (tree_lines s) ≤ length (declarations (own_lines s)) =
     subst (λ (ls : List (List Word)). name_count (tree_lines s) ≤ length (declarations ls)) (own_spelled s h) (names_are_declared s.names [] 0 (tree_lines s) (lines_keep s h)) in
     let items : length (filter has_name s.items) ≤ name_count (tree_lines s) = item_names s.items (trees_nest s.items (formed_nests s h)) in

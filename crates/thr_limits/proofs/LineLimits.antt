@@ -243,7 +243,7 @@ lines_keep s h =
     let numbered = numbered_lines 2 (own_lines s) in
     let same : words_in numbered ≡ own_lines s = words_numbered 2 (own_lines s) in
     let spelled : own_lines s ≡ texts_words (spelled_lines s.names [] (tree_lines s)) = sym (own_spelled s h) in
-    let parts = own_parts (length (own_lines s) + 2) numbered (names_are_short (length (own_lines s) + 2) numbered h.limits).1 in
+    let parts = own_parts (length (own_lines s) + 2) numbered (names_are_short (length (own_lines s) + 2) numbered h.names_and_limits).1 in
     let named : AreWellNamed (own_lines s) nothing_above (own_lines s) = subst (λ (ls : Lines). AreWellNamed ls nothing_above ls) same parts.0 in
     all_keep (own_lines s) [] s.names [] 0 (tree_lines s) (items_own s.items) h.numbers.1 (subst HaveForms spelled h.forms) (subst (AreScopes s.names []) spelled (formed_scopes s h))
     (subst (λ (ls : Lines). AreWellNamed (own_lines s) nothing_above ls) spelled named)

@@ -1,25 +1,22 @@
 -- The canonical text of a script that keeps the rules is read as that script.
 use Rattle.std.proofs.Common.{◌≡◌, ℕ, ◌+◌, ◌≤◌, Bool, true, false, List, [], ◌∷◌, ◌++◌, map, length, length-append, None, refl, sym, ap, subst, ◌∙◌, arith}
-use Rattle.std.specs.Prelude.{◌*◌, ◌||◌, ◌&&◌, not, nat_lt, codes}
-use Rattle.std.specs.List.{list_all, list_any, join_with_byte}
+use Rattle.std.specs.Prelude.{◌*◌, ◌&&◌, codes}
+use Rattle.std.specs.List.{list_all, join_with_byte}
 use Rattle.std.specs.Str.Lines.{lines}
 use Rattle.std.proofs.lemmas.Bool.{ltb-false}
 use Rattle.std.proofs.lemmas.List.{length-map}
 use Rattle.thr_syntax.specs.declared.form.Form.{Form}
-use Rattle.thr_syntax.specs.declared.form.Form.TheVariants as form
 use Rattle.thr_syntax.specs.declared.tree.Script.{Script}
 use Rattle.thr_syntax.specs.Lines.{joined}
-use Rattle.thr_syntax.specs.Canon.{item_words, script_words, canon, line}
-use Rattle.thr_syntax.specs.Spelling.{Scope, form_words}
+use Rattle.thr_syntax.specs.Canon.{canon, line}
 use Rattle.thr_text.specs.declared.word.Word.{Word}
-use Rattle.thr_text.specs.Faults.{when, word_faults}
-use Rattle.thr_text.specs.Lexing.{is_plain, word_of, words_of, word_text, line_text, AreOfLine, pieces_of, is_too_large}
+use Rattle.thr_text.specs.Faults.{word_faults}
+use Rattle.thr_text.specs.Lexing.{is_plain, word_of, words_of, line_text, AreOfLine}
 use Rattle.thr_text.specs.Computing.{text_words}
 use Rattle.thr_text.specs.Numbers.{HaveNumbers}
-use Rattle.thr_text.specs.Blocks.{Line, at_line}
+use Rattle.thr_text.specs.Blocks.{Line}
 use Rattle.thr_text.specs.Slots.{form_fault}
-use Rattle.thr_text.specs.NameFaults.{words_in}
-use Rattle.thr_text.specs.Reading.{has_words, form_faults, scan_faults, line_at, lines_from, script_lines, end_of, own_lines, numbered_lines, HaveForms, Formed, Reads}
+use Rattle.thr_text.specs.Reading.{form_faults, scan_faults, line_at, lines_from, script_lines, end_of, own_lines, numbered_lines, HaveForms, Formed, Reads}
 use Rattle.thr_lexer.proofs.OfLine.{faultless}
 use Rattle.thr_lexer.proofs.Canon.{line_again}
 use Rattle.thr_blocks.specs.Build.{is_own}

@@ -1,5 +1,5 @@
 -- What the lines of a text without a fault of the first pass are.
-use Rattle.std.proofs.Common.{◌≡◌, ℕ, ◌+◌, ◌≤◌, Bool, true, false, List, [], ◌∷◌, ◌++◌, map, length, length-append, None, Option, Some, refl, sym, ap, subst, ◌∙◌, arith}
+use Rattle.std.proofs.Common.{◌≡◌, ℕ, ◌+◌, ◌≤◌, Bool, true, false, List, [], ◌∷◌, ◌++◌, length, length-append, None, Option, Some, refl, arith}
 use Rattle.std.specs.Prelude.{◌||◌}
 use Rattle.thr_text.specs.declared.word.Word.{Word}
 use Rattle.thr_text.specs.Lexing.{words_of, line_text, AreOfLine}

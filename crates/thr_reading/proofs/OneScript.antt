@@ -1,29 +1,26 @@
 -- A text is read as one script at most.
-use Rattle.std.proofs.Common.{◌≡◌, ℕ, ◌+◌, ◌≤◌, Bool, true, false, List, [], ◌∷◌, ◌++◌, map, length, None, refl, sym, ap, subst, ◌∙◌, arith}
-use Rattle.std.specs.Prelude.{◌&&◌, ◌||◌, not, nat_lt, nat_le}
+use Rattle.std.proofs.Common.{◌≡◌, ℕ, ◌+◌, Bool, true, false, List, [], ◌∷◌, ◌++◌, map, length, refl, sym, ap, subst, ◌∙◌}
+use Rattle.std.specs.Prelude.{◌&&◌, ◌||◌, nat_lt, nat_le}
 use Rattle.std.specs.List.{list_all, list_any}
 use Rattle.std.specs.Map.{keys_of}
 use Rattle.std.proofs.lemmas.List.{map-append}
-use Rattle.std.proofs.lemmas.List.Folds.{list_all-append}
 use Rattle.thr_values.specs.Exceptions.{builtin_names}
 use Rattle.thr_syntax.specs.declared.form.Form.{Form}
-use Rattle.thr_syntax.specs.declared.form.Form.TheVariants as form
 use Rattle.thr_syntax.specs.declared.tree.Item.{Item}
 use Rattle.thr_syntax.specs.declared.tree.Script.{Script}
 use Rattle.thr_syntax.specs.Lines.{joined, item_lines}
 use Rattle.thr_syntax.specs.Canon.{scope_in, item_words}
 use Rattle.thr_syntax.specs.Spelling.{Scope, form_words}
 use Rattle.thr_text.specs.declared.word.Word.{Word}
-use Rattle.thr_text.specs.Faults.{when, word_faults}
-use Rattle.thr_text.specs.Lexing.{word_of, line_text}
+use Rattle.thr_text.specs.Faults.{when}
+use Rattle.thr_text.specs.Lexing.{word_of}
 use Rattle.thr_text.specs.Numbers.{HaveNumbers}
 use Rattle.thr_text.specs.Blocks.{Line, form_shape, shape_of_line, at_line, Nest}
-use Rattle.thr_text.specs.Slots.{form_fault, head_of_line}
+use Rattle.thr_text.specs.Slots.{head_of_line}
 use Rattle.thr_text.specs.Tables.{entries_of, declarations, rest_of, declared_in, placed_in}
-use Rattle.thr_text.specs.NameFaults.{Above, above_next, nothing_above, is_out_of_range, passes_limit, name_misfits, lines_faults, words_in, own_faults, locals_below, depth_below, has_main, is_again_word, is_second, is_undeclared, is_misused}
+use Rattle.thr_text.specs.NameFaults.{Above, above_next, nothing_above, is_out_of_range, passes_limit, name_misfits, lines_faults, words_in, locals_below, depth_below, is_again_word, is_second, is_undeclared, is_misused}
 use Rattle.thr_text.specs.Reading.{own_lines, numbered_lines, HaveForms, Formed, Reads}
 use Rattle.thr_blocks.specs.Build.{is_own}
-use Rattle.thr_blocks.specs.Trees.{item_nests}
 use Rattle.thr_blocks.proofs.FaultlessLaws.{faultless}
 use Rattle.thr_blocks.proofs.Determined.{determined}
 use Rattle.thr_resolving.specs.Resolving.{resolved, resolved_lines, scope_of}
@@ -31,7 +28,7 @@ use Rattle.thr_resolving.specs.Scopes.{IsScope}
 use Rattle.thr_reading.specs.Running.{locals_after_form, spelled_lines}
 use Rattle.thr_reading.specs.Naming.{AreScopes}
 use Rattle.thr_reading.proofs.LineWords.{first_nil, second_nil, none_at}
-use Rattle.thr_reading.proofs.OwnLaws.{items_own, item_own, no_header, some_words}
+use Rattle.thr_reading.proofs.OwnLaws.{items_own, item_own, no_header}
 use Rattle.thr_reading.proofs.ReadLaws.{words_numbered, entry_names}
 use Rattle.thr_blocks.proofs.TreesNest.{trees_nest}
 use Rattle.thr_resolving.proofs.AgainLines.{line_resolved, line_shape}

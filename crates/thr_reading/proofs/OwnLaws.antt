@@ -1,14 +1,11 @@
 -- No line of a declaration is the first line of a script.
-use Rattle.std.proofs.Common.{◌≡◌, ℕ, true, List, [], ◌∷◌, ◌++◌, map, Some, None, refl, sym, ap, subst, ◌∙◌}
-use Rattle.std.specs.Prelude.{◌&&◌}
+use Rattle.std.proofs.Common.{◌≡◌, ℕ, true, List, [], ◌∷◌, ◌++◌, map, Some, None, refl, sym, subst, ◌∙◌}
 use Rattle.std.specs.List.{list_all}
 use Rattle.std.proofs.lemmas.List.Folds.{list_all-append}
 use Rattle.thr_values.specs.declared.number.NameId.{NameId}
 use Rattle.thr_syntax.specs.declared.form.Form.{Form}
 use Rattle.thr_syntax.specs.declared.form.Form.TheVariants as form
-use Rattle.thr_syntax.specs.declared.dce.DceCall.{DceCall}
 use Rattle.thr_syntax.specs.declared.expr.Expr.{Expr}
-use Rattle.thr_syntax.specs.declared.expr.Var.{Var}
 use Rattle.thr_syntax.specs.declared.tree.Clause.{Clause}
 use Rattle.thr_syntax.specs.declared.tree.Stmt.{Stmt}
 use Rattle.thr_syntax.specs.declared.tree.Stmt.TheVariants as stmt

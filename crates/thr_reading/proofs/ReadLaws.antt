@@ -1,35 +1,33 @@
 -- A text without faults is read as the script of its resolved lines.
-use Rattle.std.proofs.Common.{◌≡◌, ℕ, ◌+◌, ◌≤◌, true, false, List, [], ◌∷◌, ◌++◌, map, length, None, refl, sym, ap, subst, ◌∙◌, arith}
+use Rattle.std.proofs.Common.{◌≡◌, ℕ, ◌+◌, ◌≤◌, true, false, List, [], ◌∷◌, ◌++◌, map, length, refl, sym, ap, subst, ◌∙◌, arith}
 use Rattle.std.specs.List.{list_all}
 use Rattle.std.specs.Map.{keys_of}
 use Rattle.std.specs.Str.Lines.{lines}
-use Rattle.std.proofs.lemmas.List.{length-map, map-append}
+use Rattle.std.proofs.lemmas.List.{length-map}
 use Rattle.thr_values.specs.Exceptions.{builtin_names}
 use Rattle.thr_syntax.specs.declared.form.Form.{Form}
 use Rattle.thr_syntax.specs.declared.form.Form.TheVariants as form
 use Rattle.thr_syntax.specs.declared.tree.Item.{Item}
 use Rattle.thr_syntax.specs.declared.tree.Script.{Script}
-use Rattle.thr_syntax.specs.Lines.{joined, item_lines, lines_of}
-use Rattle.thr_syntax.specs.Canon.{item_words}
-use Rattle.thr_syntax.specs.Spelling.{Scope, form_words}
+use Rattle.thr_syntax.specs.Lines.{joined, item_lines}
+use Rattle.thr_syntax.specs.Spelling.{form_words}
 use Rattle.thr_text.specs.declared.word.Word.{Word}
 use Rattle.thr_text.specs.Blocks.{Line, form_shape, shape_of_line, block_faults, Nest}
 use Rattle.thr_text.specs.Lexing.{word_of}
 use Rattle.thr_text.specs.Numbers.{HaveNumbers}
 use Rattle.thr_text.specs.Slots.{form_fault}
 use Rattle.thr_text.specs.Tables.{Entry, entries_of, declarations, builtin_entry}
-use Rattle.thr_text.specs.NameFaults.{words_in, own_faults, name_faults, locals_below}
+use Rattle.thr_text.specs.NameFaults.{words_in, name_faults, locals_below}
 use Rattle.thr_text.specs.Reading.{scan_faults, script_lines, end_of, faults, in_pass, own_lines, numbered_lines, HaveForms, Formed, Reads}
 use Rattle.thr_blocks.specs.Build.{is_own, built}
-use Rattle.thr_blocks.specs.Trees.{item_nests}
 use Rattle.thr_blocks.proofs.FaultlessLaws.{faultless}
 use Rattle.thr_blocks.proofs.BuildLaws.{kept_lines}
 use Rattle.thr_blocks.proofs.BuildLaws.{all_own as kept_all}
 use Rattle.thr_resolving.specs.Resolving.{resolved, resolved_lines, scope_of}
 use Rattle.thr_resolving.specs.Scopes.{IsFaultless}
 use Rattle.thr_reading.specs.Running.{locals_after_form, spelled_lines}
-use Rattle.thr_reading.specs.Naming.{AreFaultless, HaveGoodWords}
-use Rattle.thr_reading.proofs.LineWords.{AreGood, first_nil, second_nil, good_lines, fewer_lines}
+use Rattle.thr_reading.specs.Naming.{AreFaultless}
+use Rattle.thr_reading.proofs.LineWords.{first_nil, second_nil, good_lines, fewer_lines}
 use Rattle.thr_blocks.proofs.TreesNest.{trees_nest}
 use Rattle.thr_resolving.proofs.LineWords.{faultless_tells}
 use Rattle.thr_reading.proofs.NamesFaultless.{names_are_faultless}

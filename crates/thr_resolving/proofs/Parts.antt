@@ -1,5 +1,5 @@
 -- A line as its head and the values in its slots.
-use Rattle.std.specs.Prelude.{◌≡◌, ℕ, ℤ, pos, List, [], ◌∷◌, ◌++◌, Option, Some, None}
+use Rattle.std.specs.Prelude.{ℕ, pos, List, [], ◌∷◌, ◌++◌, Some, None}
 use Rattle.std.specs.Fmt.{signed_decimal}
 use Rattle.thr_values.specs.Words.{policy_word, kind_word, inherit_word, cancel_word}
 use Rattle.thr_values.specs.declared.call.CallWord.{CallWord}
@@ -8,7 +8,7 @@ use Rattle.thr_syntax.specs.declared.dce.DceCall.{DceCall}
 use Rattle.thr_syntax.specs.declared.dce.DceCall.TheVariants as dce
 use Rattle.thr_syntax.specs.declared.form.Form.{Form}
 use Rattle.thr_syntax.specs.declared.form.Form.TheVariants as form
-use Rattle.thr_syntax.specs.Spelling.{Scope, name_of, local_of, variable_of, name_or, expr_words, interface_word, value_words}
+use Rattle.thr_syntax.specs.Spelling.{Scope, name_of, variable_of, name_or, expr_words, interface_word, value_words}
 use Rattle.thr_text.specs.declared.head.Head.{Head}
 use Rattle.thr_text.specs.declared.head.Head.TheVariants as head
 use Rattle.thr_text.specs.declared.head.Choice.TheVariants as choice

@@ -1,6 +1,5 @@
 -- A line with its names resolved.
-use Rattle.std.specs.Prelude.{ℕ, ℤ, pos, negsuc, ◌^◌, Bool, true, false, nat_lt, List, [], ◌∷◌, position, unwrap_or, codes, if◌then◌else◌, Option, Some, None}
-use Rattle.std.specs.List.{list_any}
+use Rattle.std.specs.Prelude.{ℕ, ℤ, pos, negsuc, ◌^◌, Bool, false, nat_lt, List, [], ◌∷◌, position, unwrap_or, codes, if◌then◌else◌, Option, Some, None}
 use Rattle.std.specs.Str.{bytes_eq}
 use Rattle.thr_values.specs.Words.{policy_word, kind_word}
 use Rattle.thr_values.specs.declared.number.NameId.{NameId}
@@ -26,7 +25,7 @@ use Rattle.thr_syntax.specs.declared.tree.Interface.{Interface}
 use Rattle.thr_syntax.specs.declared.tree.Interface.TheVariants as interface
 use Rattle.thr_syntax.specs.Spelling.{Scope, operator_word}
 use Rattle.thr_text.specs.declared.word.Word.{Word}
-use Rattle.thr_text.specs.declared.word.Word.TheVariants.{Num, Name, Mark}
+use Rattle.thr_text.specs.declared.word.Word.TheVariants.{Num, Name}
 use Rattle.thr_text.specs.declared.head.Head.{Head}
 use Rattle.thr_text.specs.declared.head.Head.TheVariants as head
 use Rattle.thr_text.specs.declared.head.Choice.{Choice}

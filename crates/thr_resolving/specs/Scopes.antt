@@ -1,17 +1,14 @@
 -- Names by which lines are resolved, and those by which they are spelled.
-use Rattle.std.specs.Prelude.{◌≡◌, ℕ, ◌<◌, ◌≤◌, true, false, List, [], ◌∷◌, length, position, Some, None}
+use Rattle.std.specs.Prelude.{◌≡◌, ℕ, ◌<◌, ◌≤◌, true, false, List, length, position, Some, None}
 use Rattle.std.specs.List.{list_all, list_any}
-use Rattle.std.specs.Map.{keys_of}
 use Rattle.std.specs.Str.{bytes_eq}
-use Rattle.thr_syntax.specs.Spelling.{Scope, name_at, form_words}
-use Rattle.thr_syntax.specs.declared.form.Form.{Form}
+use Rattle.thr_syntax.specs.Spelling.{Scope, name_at}
 use Rattle.thr_text.specs.declared.word.Word.{Word}
 use Rattle.thr_text.specs.Names.{is_name}
 use Rattle.thr_text.specs.Lexing.{AreOfLine}
 use Rattle.thr_text.specs.Slots.{form_fault, head_of_line}
 use Rattle.thr_text.specs.Tables.{Entry, is_among, is_declared, declared_in, placed_in, rest_of}
 use Rattle.thr_text.specs.NameFaults.{is_undeclared, is_misused, is_out_of_range}
-use Rattle.thr_resolving.specs.Resolving.{scope_of}
 
 -- Each name is found at its own place.
 abbrev pub AreDistinct : List (List ℕ) → Type 0

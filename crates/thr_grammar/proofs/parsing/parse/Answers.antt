@@ -1,12 +1,9 @@
-use Rattle.std.proofs.Common.{◌≡◌, ap, sym, subst, ◌∙◌}
-use Rattle.std.specs.Prelude.{List}
+use Rattle.std.proofs.Common.{sym, subst, ◌∙◌}
 use Rattle.std.proofs.lemmas.Result.{err_from_is_err_and}
 use Rattle.thr_text.specs.Refusals.{IsFirst}
-use Rattle.thr_text.specs.Blocks.{block_faults}
-use Rattle.thr_text.specs.NameFaults.{name_faults}
 use Rattle.thr_reading.proofs.ReadLaws.{no_faults}
 use Rattle.thr_reading.proofs.OneScript.{one_script}
-use Rattle.thr_grammar.proofs.ParseLaws.{Passed, scan_stated, blocks_stated, names_stated, scan_never, blocks_never, names_never, same_blocks, same_names, forms_nesting, forms_are_own, script_read, passed_of}
+use Rattle.thr_grammar.proofs.ParseLaws.{scan_stated, blocks_stated, names_stated, blocks_never, names_never, same_blocks, same_names, forms_nesting, forms_are_own, script_read, passed_of}
 use Rattle.thr_grammar.proofs.parsing.parse.Goals as goal
 
 pub returns-in_err-reading-clause-fault : goal.returns-in_err-reading-clause-fault

@@ -1,5 +1,4 @@
 use Rattle.std.proofs.Common.{sym, subst}
-use Rattle.thr_syntax.specs.declared.tree.Script.{Script}
 use Rattle.thr_syntax.specs.Canon.{canon}
 use Rattle.thr_text.specs.Reading.{Reads}
 use Rattle.thr_reading.proofs.CanonLaws.{canon_again, canon_short}
