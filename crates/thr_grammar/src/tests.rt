@@ -1,5 +1,6 @@
 //! Scripts and their canonical texts.
 
+use crate::parsing::parse;
 use crate::printing::print;
 use sqlite_items::{Boxed, Items};
 use std::alloc::Global;
@@ -7,6 +8,7 @@ use std::test::Fail;
 use thr_syntax::dce::DceCall;
 use thr_syntax::expr::{ExcRef, Expr, Op, Var};
 use thr_syntax::tree::{Clause, Interface, Item, Routine, Script, Stmt};
+use thr_text::fault::ParseFault;
 use thr_values::name::Name;
 use thr_values::number::NameId;
 use thr_values::reply::Kind;
@@ -278,5 +280,43 @@ fn scripts_have_their_texts(rt: HostRuntime) -> Result<(), Fail> {
     };
     let text = print(alloc, &empty)?;
     assert!(rt; text.as_slice() == b"dcethr 1\n".as_slice());
+    Ok(())
+}
+
+/// The script that a short text is the text of.
+fn read(alloc: Global, text: &[u8]) -> Result<Script, ParseFault> {
+    if text.len() > 4000 {
+        return Err(ParseFault::NoMemory);
+    }
+    parse(alloc, text)
+}
+
+/// The line and the number of the first fault of a text, or zeros where it has none.
+fn fault(alloc: Global, text: &[u8]) -> (u32, u8) {
+    match read(alloc, text) {
+        Ok(_) => (0, 0),
+        Err(ParseFault::Refused(place)) => (place.line, place.number),
+        Err(ParseFault::NoMemory) => (0, 1),
+    }
+}
+
+#[test]
+fn texts_are_read_or_refused(rt: HostRuntime) -> Result<(), Fail> {
+    let alloc = rt.alloc();
+    let text = print(alloc, &read(alloc, TEXT)?)?;
+    assert!(rt; text.as_slice() == TEXT);
+    let cases: [(&[u8], (u32, u8)); 8] = [
+        (b"\n dcethr 01 # c\nroutine main a\nend", (0, 0)),
+        (b"", (1, 5)),
+        (b"dcethr 1\nroutine main a\nsay x\nelse\nend\nsay", (6, 7)),
+        (b"dcethr 1\nroutine main a\nsay x\nelse\nend\n", (4, 9)),
+        (b"dcethr 1\nroutine main a\n\n", (4, 8)),
+        (b"dcethr 1\nroutine main a\nsay x\nend\n", (3, 16)),
+        (b"dcethr 1\nmutex main\nroutine main a\nend\n", (3, 15)),
+        (b"dcethr 1\nmutex m\n\n", (4, 18)),
+    ];
+    for (text, wanted) in cases {
+        assert_eq!(rt; fault(alloc, text), wanted, "{text:?}");
+    }
     Ok(())
 }
