@@ -80,7 +80,7 @@ met (Begins role body line) i outer r further = record {
   to = record r { items = record { role = role; inside = body } ∷ outer; under_way = None };
   lines = line ∷ [];
 }
-met Undoes i outer r further = still (record r { items = i ∷ outer })
+met Undoes i outer r further = record { to = record r { items = i ∷ outer }; lines = [] }
 met (Loses line) i outer r further = record { to = record r { items = outer; under_way = None }; lines = line ∷ [] }
 
 -- The unwinding goes outward from these items until a body begins, it is lost, it comes to a once block, or no item is left.

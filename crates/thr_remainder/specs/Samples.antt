@@ -1,5 +1,5 @@
 -- Scripts and remainders for worked examples.
-use Rattle.std.specs.Prelude.{ℕ, ◌+◌, ℤ, pos, List, [], ◌∷◌, ◌++◌, codes, negsuc, take, replicate, Option, Some, None}
+use Rattle.std.specs.Prelude.{ℕ, zero, suc, ◌+◌, ℤ, pos, List, [], ◌∷◌, ◌++◌, map, reverse, codes, negsuc, take, replicate, Option, Some, None}
 use Rattle.thr_values.specs.declared.number.NameId.{NameId}
 use Rattle.thr_values.specs.declared.call.Arg.{Arg}
 use Rattle.thr_values.specs.declared.call.Arg.TheVariants as arg
@@ -7,6 +7,8 @@ use Rattle.thr_values.specs.declared.call.CallWord.{CallWord}
 use Rattle.thr_values.specs.declared.history.What.{What}
 use Rattle.thr_values.specs.declared.history.What.TheVariants as what
 use Rattle.thr_values.specs.declared.reply.Reply.{Reply}
+use Rattle.thr_values.specs.declared.reply.Reply.TheVariants as reply
+use Rattle.thr_syntax.specs.declared.dce.DceCall.{DceCall}
 use Rattle.thr_syntax.specs.declared.expr.Var.{Var}
 use Rattle.thr_syntax.specs.declared.expr.Var.TheVariants.{Local, Shared}
 use Rattle.thr_syntax.specs.declared.expr.Op.{Op}
@@ -21,7 +23,8 @@ use Rattle.thr_syntax.specs.declared.tree.Script.{Script}
 use Rattle.thr_remainder.specs.Places.{nothing}
 use Rattle.thr_remainder.specs.Remainders.{Calling, Setting, Remainder}
 use Rattle.thr_remainder.specs.Expressions.{Value, none_shared, value_of}
-use Rattle.thr_remainder.specs.Starts.{fresh, line_of_next}
+use Rattle.thr_remainder.specs.Starts.{fresh, line_of_next, delivered}
+use Rattle.thr_remainder.specs.Calls.{shape_of, arguments}
 use Rattle.thr_remainder.specs.Next.{Next, GoesOutward, UndoesOnce, EndsThread, EndsOnce, Shares, IsAtPoint, StepsQuietly, next}
 use Rattle.thr_remainder.specs.Alone.{Answer, Standing, Tale, tale}
 
@@ -107,6 +110,10 @@ call word args reply = what.Call word (take 4 (args ++ replicate 4 arg.Nothing))
 
 -- ---- runs
 
+abbrev pub down_from : ℕ → List ℕ
+down_from zero = []
+down_from (suc n) = n ∷ down_from n
+
 -- Thread 1 with a stack of so many frames.
 abbrev pub setting_of : ℕ → Script → Setting
 setting_of size s = record { script = s; me = 1; size = size }
@@ -122,14 +129,35 @@ lines_at s name n answers = (tale_of 256 s name n answers).lines
 abbrev pub lines_of : Script → List Answer → List What
 lines_of s answers = lines_at s main (pos 0) answers
 
+abbrev pub said_by : What → List ℤ → List ℤ
+said_by (what.Say n) ns = n ∷ ns
+said_by _ ns = ns
+
+-- What lines say by `say`.
+abbrev pub said : List What → List ℤ
+said [] = []
+said (w ∷ ws) = said_by w (said ws)
+
 -- The same with a stack of so many frames.
 abbrev pub lines_within : ℕ → Script → List Answer → List What
 lines_within size s answers = (tale_of size s main (pos 0) answers).lines
 
--- The line of the next step after so many steps.
-abbrev pub line_after : ℕ → Script → List Answer → Option ℕ
-line_after n s answers =
-    line_of_next (tale n (setting_of 256 s) (record { to = fresh s main (pos 0); shared = none_shared; answers = answers })).standing.to
+-- What is left of that thread after so many steps.
+abbrev pub after_steps : Script → List Answer → ℕ → Remainder
+after_steps s answers n =
+    (tale n (setting_of 256 s) (record { to = fresh s main (pos 0); shared = none_shared; answers = answers })).standing.to
+
+-- What this is after 0 and more steps, so many times.
+abbrev pub before_each : {A : Type 0} → (Remainder → A) → Script → List Answer → ℕ → List A
+before_each f s answers n = map (λ i. f (after_steps s answers i)) (reverse (down_from n))
+
+-- The line of the next step before each of so many steps.
+abbrev pub lines_after : ℕ → Script → List Answer → List (Option ℕ)
+lines_after n s answers = before_each line_of_next s answers n
+
+-- The line of a cancel that is delivered after so many steps.
+abbrev pub delivery_after : ℕ → Script → List Answer → List What
+delivery_after n s answers = (delivered (after_steps s answers n)).lines
 
 -- ---- expressions
 
@@ -168,7 +196,12 @@ next_word (StepsQuietly move) = codes "quiet"
 abbrev pub kind_of : Stmt → List ℕ
 kind_of stmt = let sample = script [] 3 (stmt ∷ []) in next_word (next (setting_of 256 sample) (fresh sample main (pos 0)))
 
--- That of a thread after so many steps.
-abbrev pub next_after : ℕ → Script → List Answer → List ℕ
-next_after n s answers =
-    next_word (next (setting_of 256 s) (tale n (setting_of 256 s) (record { to = fresh s main (pos 0); shared = none_shared; answers = answers })).standing.to)
+-- That before each of so many steps.
+abbrev pub nexts_after : ℕ → Script → List Answer → List (List ℕ)
+nexts_after n s answers = before_each (λ r. next_word (next (setting_of 256 s) r)) s answers n
+
+-- ---- calls
+
+-- The lines of these calls, where their expressions have the values 5 and 6.
+abbrev pub call_lines : List DceCall → List What
+call_lines calls = map (λ c. what.Call (shape_of c).word (arguments c (pos 5 ∷ pos 6 ∷ [])) reply.Done) calls

@@ -26,13 +26,10 @@ abbrev pub kept : List Item → ℤ → ℤ → ℤ
 kept [] n v = n
 kept (i ∷ outer) n v = v
 
+-- The local of the caller that takes the value.
 abbrev pub place_for : Role → Option ℕ
 place_for (Calling locals place) = place
 place_for _ = None
-
--- The innermost call is gone and has returned this value (docs/machine.md, "Routines").
-abbrev pub returned : Role → ℤ → List Item → Remainder → Remainder
-returned role n outer r = record r { items = stored (place_for role) n outer; value = kept outer n r.value }
 
 -- ---- statements, given the value of their expression
 
@@ -40,14 +37,22 @@ abbrev pub variable_set : Var → ℤ → List Item → List Item
 variable_set (Local p) n items = with_local p n items
 variable_set (Shared name) n items = items
 
+-- The items after a statement whose expression has this value (docs/machine.md, "Quiet steps").
+abbrev pub items_after : Setting → Act → ℤ → Spot → List Item
+items_after g (Sets v e) n h = variable_set v n (passed h)
+items_after g (Chooses e body other) n h = goes_on h (if is_true n then body else other)
+items_after g (Repeats e again) n h = goes_on h (if is_true n then again else h.rest)
+items_after g (Calls routine e place) n h = calling (entry_of g.script routine) n place ∷ passed h
+items_after g (Returns e) n h = stored (place_for h.role) n h.outer
+items_after g _ n h = passed h
+
+abbrev pub kept_after : Act → ℤ → List Item → ℤ → ℤ
+kept_after (Returns e) n outer v = kept outer n v
+kept_after _ n outer v = v
+
 -- What is left after a statement whose expression has this value (docs/machine.md, "Quiet steps").
 abbrev pub after : Setting → Act → ℤ → Spot → Remainder → Remainder
-after g (Sets v e) n h r = record r { items = variable_set v n (passed h) }
-after g (Chooses e body other) n h r = record r { items = goes_on h (if is_true n then body else other) }
-after g (Repeats e again) n h r = record r { items = goes_on h (if is_true n then again else h.rest) }
-after g (Calls routine e place) n h r = record r { items = calling (entry_of g.script routine) n place ∷ passed h }
-after g (Returns e) n h r = returned h.role n h.outer r
-after g _ n h r = record r { items = passed h }
+after g act n h r = record r { items = items_after g act n h; value = kept_after act n h.outer r.value }
 
 -- What a shared statement tells of the value of its expression (docs/machine.md, "Shared statements").
 abbrev pub told : Act → ℕ → ℤ → List What
@@ -89,23 +94,28 @@ made g tells shared (Asks call) h r = still r
 
 -- ---- ends
 
--- The end of a try body: the try is left, or its FINALLY body begins without an unwinding.
-abbrev pub tried : ℕ → Ways → List Item → Remainder → Move
-tried scope (Catches handlers) outer r = record { to = record r { items = outer }; lines = what.Endtry scope ∷ [] }
-tried scope (Finally body) outer r = record {
-  to = record r { items = record { role = Finishing scope None; inside = body } ∷ outer };
-  lines = what.Finally scope 0 ∷ [];
-}
+abbrev pub items_tried : ℕ → Ways → List Item → List Item
+items_tried scope (Catches handlers) outer = outer
+items_tried scope (Finally body) outer = record { role = Finishing scope None; inside = body } ∷ outer
 
--- The end of the innermost item, where nothing is left inside it (docs/machine.md, "Quiet steps"): a call returns 0, and an
--- unwinding that was pending in a FINALLY body is under way again. The end of a once routine is a shared step.
+abbrev pub line_tried : ℕ → Ways → What
+line_tried scope (Catches handlers) = what.Endtry scope
+line_tried scope (Finally body) = what.Finally scope 0
+
+-- Only the items change, and there is one line.
+abbrev pub leaves : List Item → What → Remainder → Move
+leaves items line r = record { to = record r { items = items }; lines = line ∷ [] }
+
+-- The end of the innermost item, where nothing is left inside it (docs/machine.md, "Quiet steps"): a call returns 0, a try is
+-- left or its FINALLY body begins without an unwinding, and an unwinding that was pending in a FINALLY body is under way
+-- again. The end of a once routine is a shared step.
 abbrev pub ended : Role → List Item → Remainder → Move
-ended (Calling locals place) outer r = still (returned (Calling locals place) (pos 0) outer r)
-ended (Trying scope ways) outer r = tried scope ways outer r
-ended (Catching scope caught) outer r = record { to = record r { items = outer }; lines = what.Endcatch scope ∷ [] }
-ended (Finishing scope pending) outer r = record { to = record r { items = outer; under_way = pending }; lines = what.Endfin scope ∷ [] }
-ended (Doing scope block routine) outer r = record { to = record r { items = outer }; lines = what.Done scope ∷ [] }
-ended (Barrier scope key routine) outer r = record { to = record r { items = outer }; lines = what.Enddes scope ∷ [] }
+ended (Calling locals place) outer r = still (record r { items = stored place (pos 0) outer; value = kept outer (pos 0) r.value })
+ended (Trying scope ways) outer r = leaves (items_tried scope ways outer) (line_tried scope ways) r
+ended (Catching scope caught) outer r = leaves outer (what.Endcatch scope) r
+ended (Finishing scope pending) outer r = leaves outer (what.Endfin scope) (record r { under_way = pending })
+ended (Doing scope block routine) outer r = leaves outer (what.Done scope) r
+ended (Barrier scope key routine) outer r = leaves outer (what.Enddes scope) r
 
 -- ---- steps
 
