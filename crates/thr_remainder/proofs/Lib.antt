@@ -1,1 +1,3 @@
-
+pub mod ActLaws
+pub mod SizeLaws
+pub mod ValueLaws

@@ -2,5 +2,6 @@
 //! examples of them.
 #![tactic(auto)]
 
+pub mod laws;
 pub mod rows;
 pub mod unwinding;
