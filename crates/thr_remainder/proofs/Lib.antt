@@ -1,3 +1,4 @@
 pub mod ActLaws
 pub mod SizeLaws
 pub mod ValueLaws
+pub mod StandingLaws

@@ -4,6 +4,7 @@ pub mod Declarations
 pub mod Remainders
 pub mod Expressions
 pub mod Starts
+pub mod Standing
 pub mod Calls
 pub mod Steps
 pub mod Outward
