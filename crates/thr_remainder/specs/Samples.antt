@@ -24,7 +24,7 @@ use Rattle.thr_remainder.specs.Places.{nothing}
 use Rattle.thr_remainder.specs.Remainders.{Calling, Setting, Remainder}
 use Rattle.thr_remainder.specs.Expressions.{Value, none_shared, value_of}
 use Rattle.thr_remainder.specs.Starts.{fresh, line_of_next, delivered}
-use Rattle.thr_remainder.specs.Calls.{shape_of, arguments}
+use Rattle.thr_remainder.specs.Calls.{shape_of, arguments, stores}
 use Rattle.thr_remainder.specs.Next.{Next, GoesOutward, UndoesOnce, EndsThread, EndsOnce, Shares, IsAtPoint, StepsQuietly, next}
 use Rattle.thr_remainder.specs.Alone.{Answer, Standing, Tale, tale}
 
@@ -205,3 +205,7 @@ nexts_after n s answers = before_each (λ r. next_word (next (setting_of 256 s) 
 -- The lines of these calls, where their expressions have the values 5 and 6.
 abbrev pub call_lines : List DceCall → List What
 call_lines calls = map (λ c. what.Call (shape_of c).word (arguments c (pos 5 ∷ pos 6 ∷ [])) reply.Done) calls
+
+-- What each of these calls stores of this reply.
+abbrev pub stored_by : Reply → List DceCall → List (List (Var × ℤ))
+stored_by r calls = map (λ c. stores c r) calls

@@ -1,6 +1,6 @@
-//! The line of each call of the thread service, where its expressions have the values 5 and 6.
+//! Each call of the thread service: its line, where its expressions have the values 5 and 6, and the variables that it writes.
 
-ghost use Rattle.std.specs.Prelude.{◌≡◌, pos, ◌∷◌, [], None, Some, true, false};
+ghost use Rattle.std.specs.Prelude.{◌≡◌, pos, ◌∷◌, [], map, replicate, None, Some, true, false};
 ghost use Rattle.thr_values.specs.declared.call.Arg.TheVariants as arg;
 ghost use Rattle.thr_values.specs.declared.call.CallWord.TheVariants as word;
 ghost use Rattle.thr_values.specs.declared.reply.Kind.TheVariants as kind;
@@ -8,8 +8,9 @@ ghost use Rattle.thr_values.specs.declared.reply.Reply.TheVariants as reply;
 ghost use Rattle.thr_values.specs.declared.scheduling.Policy.TheVariants as policy;
 ghost use Rattle.thr_syntax.specs.declared.dce.DceCall.TheVariants as dce;
 ghost use Rattle.thr_syntax.specs.declared.expr.Expr.TheVariants as expr;
-ghost use Rattle.thr_syntax.specs.declared.expr.Var.TheVariants.{Local};
-ghost use Rattle.thr_remainder.specs.Samples.{a, b, c, call, call_lines, k, m, o, p, r};
+ghost use Rattle.thr_syntax.specs.declared.expr.Var.TheVariants.{Local, Shared};
+ghost use Rattle.thr_remainder.specs.Calls.{is_point};
+ghost use Rattle.thr_remainder.specs.Samples.{a, b, c, call, call_lines, k, m, o, p, r, stored_by};
 
 /// Attribute cells.
 #[tactic(auto, unfolding(crate::specs::Computing::remainder_words))]
@@ -107,4 +108,52 @@ pub fn other_calls()
         ∷ call word.Write (arg.Name p ∷ arg.Num (pos 5) ∷ []) reply.Done
         ∷ call word.Close (arg.Name p ∷ []) reply.Done
         ∷ [] }
+{}
+
+/// The variables in which calls store the value of a reply, and the calls that store none.
+#[tactic(auto, unfolding(crate::specs::Computing::remainder_words))]
+pub fn variables()
+    ensures one { stored_by (reply.Value (pos 7))
+        (dce.Create (Local 1) None r expr.Me ∷ dce.Join expr.Me (Local 1) ∷ dce.Setcancel true (Local 1)
+        ∷ dce.Setasynccancel true (Local 1) ∷ dce.Setprio expr.Me expr.Err (Local 1) ∷ dce.Getprio expr.Me (Local 1)
+        ∷ dce.Setscheduler expr.Me policy.Bg expr.Err (Local 1) ∷ dce.Getscheduler expr.Me (Local 1)
+        ∷ dce.GetExpirationNp expr.Me (Local 1) ∷ dce.MutexTrylock m (Local 1) ∷ dce.Getspecific k (Local 1) ∷ [])
+        ≡ replicate 11 ((Local 1, pos 7) ∷ []) }
+    ensures two { stored_by (reply.Value (pos 7)) (dce.Read p (Local 1) (Shared o) ∷ [])
+        ≡ ((Local 1, pos 7) ∷ (Shared o, pos 1) ∷ []) ∷ [] }
+    ensures at_the_end_of_a_pipe { stored_by reply.Eof (dce.Read p (Local 1) (Shared o) ∷ [])
+        ≡ ((Local 1, pos 0) ∷ (Shared o, pos 0) ∷ []) ∷ [] }
+    ensures without_a_value { stored_by reply.Esrch
+        (dce.Create (Local 1) None r expr.Me ∷ dce.Join expr.Me (Local 1) ∷ dce.Read p (Local 1) (Local 2) ∷ [])
+        ≡ replicate 3 [] }
+    ensures none { stored_by (reply.Value (pos 7))
+        (dce.AttrCreate a ∷ dce.AttrDelete a ∷ dce.AttrSetsched a policy.Fifo ∷ dce.AttrSetprio a expr.Me
+        ∷ dce.AttrSetinheritsched a true ∷ dce.AttrSetstacksize a expr.Me ∷ dce.Detach expr.Me ∷ dce.Yield
+        ∷ dce.Cancel expr.Me ∷ dce.Testcancel ∷ dce.DelayNp expr.Me ∷ dce.MutexattrCreate b
+        ∷ dce.MutexattrSetkindNp b kind.Fast ∷ dce.MutexattrDelete b ∷ dce.MutexInit m None ∷ dce.MutexDestroy m
+        ∷ dce.MutexLock m ∷ dce.MutexUnlock m ∷ dce.LockGlobalNp ∷ dce.UnlockGlobalNp ∷ dce.CondInit c ∷ dce.CondDestroy c
+        ∷ dce.CondWait c m ∷ dce.CondTimedwait c m expr.Me ∷ dce.CondSignal c ∷ dce.CondBroadcast c ∷ dce.Once o r
+        ∷ dce.Keycreate k None ∷ dce.Setspecific k expr.Me ∷ dce.Write p expr.Me ∷ dce.Close p ∷ [])
+        ≡ replicate 31 [] }
+{}
+
+/// The calls that are points, and those that are none.
+#[tactic(auto, unfolding(crate::specs::Computing::remainder_words))]
+pub fn points()
+    ensures points { map is_point
+        (dce.Testcancel ∷ dce.CondWait c m ∷ dce.CondTimedwait c m expr.Me ∷ dce.Join expr.Me (Local 1) ∷ dce.DelayNp expr.Me
+        ∷ dce.Read p (Local 1) (Local 2) ∷ dce.Write p expr.Me ∷ [])
+        ≡ replicate 7 true }
+    ensures others { map is_point
+        (dce.AttrCreate a ∷ dce.AttrDelete a ∷ dce.AttrSetsched a policy.Fifo ∷ dce.AttrSetprio a expr.Me
+        ∷ dce.AttrSetinheritsched a true ∷ dce.AttrSetstacksize a expr.Me ∷ dce.Create (Local 1) None r expr.Me
+        ∷ dce.Detach expr.Me ∷ dce.Yield ∷ dce.Cancel expr.Me ∷ dce.Setcancel true (Local 1)
+        ∷ dce.Setasynccancel true (Local 1) ∷ dce.Setprio expr.Me expr.Err (Local 1) ∷ dce.Getprio expr.Me (Local 1)
+        ∷ dce.Setscheduler expr.Me policy.Bg expr.Err (Local 1) ∷ dce.Getscheduler expr.Me (Local 1)
+        ∷ dce.GetExpirationNp expr.Me (Local 1) ∷ dce.MutexattrCreate b ∷ dce.MutexattrSetkindNp b kind.Fast
+        ∷ dce.MutexattrDelete b ∷ dce.MutexInit m None ∷ dce.MutexDestroy m ∷ dce.MutexLock m ∷ dce.MutexTrylock m (Local 1)
+        ∷ dce.MutexUnlock m ∷ dce.LockGlobalNp ∷ dce.UnlockGlobalNp ∷ dce.CondInit c ∷ dce.CondDestroy c ∷ dce.CondSignal c
+        ∷ dce.CondBroadcast c ∷ dce.Once o r ∷ dce.Keycreate k None ∷ dce.Setspecific k expr.Me
+        ∷ dce.Getspecific k (Local 1) ∷ dce.Close p ∷ [])
+        ≡ replicate 36 false }
 {}
