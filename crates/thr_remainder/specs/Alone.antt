@@ -28,7 +28,7 @@ pub data Answer : Type 0 where
   Destroys : (key routine : NameId) (value : ℤ) → Answer
 
 -- Where an example stands: what is left, the values of shared variables, and the answers to come.
-pub record Standing : Type 0 where
+pub record Example : Type 0 where
   pub to : Remainder
   pub shared : SharedValues
   pub answers : List Answer
@@ -36,10 +36,10 @@ pub record Standing : Type 0 where
 -- The lines of an example from here on, and where it ends.
 pub record Tale : Type 0 where
   pub lines : List What
-  pub standing : Standing
+  pub example : Example
 
 abbrev pub led_by : List What → Tale → Tale
-led_by lines tale = record { lines = lines ++ tale.lines; standing = tale.standing }
+led_by lines tale = record { lines = lines ++ tale.lines; example = tale.example }
 
 abbrev pub with_write : NameId → ℤ → SharedValues → SharedValues
 with_write name n shared other = if is_same_name name other then n else shared other
@@ -52,11 +52,11 @@ abbrev pub with_one : Option (NameId × ℤ) → SharedValues → SharedValues
 with_one None shared = shared
 with_one (Some w) shared = with_write w.0 w.1 shared
 
-abbrev pub at_move : Move → Standing → List Answer → (Standing → Tale) → Tale
+abbrev pub at_move : Move → Example → List Answer → (Example → Tale) → Tale
 at_move m st answers more = led_by m.lines (more (record { to = m.to; shared = st.shared; answers = answers }))
 
-abbrev pub stops : Standing → Tale
-stops st = record { lines = []; standing = st }
+abbrev pub stops : Example → Tale
+stops st = record { lines = []; example = st }
 
 -- ---- calls
 
@@ -72,7 +72,7 @@ abbrev pub writes_after : Reply → Remainder → List (NameId × ℤ)
 writes_after reply.Blocks r = []
 writes_after y r = writes r y
 
-abbrev pub replies : Setting → DceCall → Values → Reply → Standing → List Answer → (Standing → Tale) → Tale
+abbrev pub replies : Setting → DceCall → Values → Reply → Example → List Answer → (Example → Tale) → Tale
 replies g call (Err x) y st answers more = at_move (raised x st.to) st answers more
 replies g call (Ok ns) y st answers more =
     at_move (called call ns y (move_after y g st.to)) (record st { shared = with_writes (writes_after y st.to) st.shared }) answers more
@@ -80,7 +80,7 @@ replies g call (Ok ns) y st answers more =
 abbrev pub then_move : Move → Move → Move
 then_move m n = record { to = n.to; lines = m.lines ++ n.lines }
 
-abbrev pub runs : Setting → DceCall → Values → NameId → NameId → Standing → List Answer → (Standing → Tale) → Tale
+abbrev pub runs : Setting → DceCall → Values → NameId → NameId → Example → List Answer → (Example → Tale) → Tale
 runs g call (Err x) block routine st answers more = at_move (raised x st.to) st answers more
 runs g call (Ok ns) block routine st answers more =
     let m = called call ns reply.Done (replied g reply.Done st.to) in at_move (then_move m (begins_once g block routine m.to)) st answers more
@@ -89,15 +89,15 @@ runs g call (Ok ns) block routine st answers more =
 abbrev pub returning : Reply → Move → Move
 returning y m = record { to = m.to; lines = what.Ret y ∷ m.lines }
 
-abbrev pub returned_by : Setting → Reply → Standing → List Answer → (Standing → Tale) → Tale
+abbrev pub returned_by : Setting → Reply → Example → List Answer → (Example → Tale) → Tale
 returned_by g y st answers more =
     at_move (returning y (replied g y st.to)) (record st { shared = with_writes (writes st.to y) st.shared }) answers more
 
-abbrev pub runs_later : Setting → NameId → NameId → Standing → List Answer → (Standing → Tale) → Tale
+abbrev pub runs_later : Setting → NameId → NameId → Example → List Answer → (Example → Tale) → Tale
 runs_later g block routine st answers more =
     let m = returning reply.Done (replied g reply.Done st.to) in at_move (then_move m (begins_once g block routine m.to)) st answers more
 
-abbrev pub answers_call : Setting → DceCall → List Answer → Standing → (Standing → Tale) → Tale
+abbrev pub answers_call : Setting → DceCall → List Answer → Example → (Example → Tale) → Tale
 answers_call g call [] st more = stops st
 answers_call g call (Replies y ∷ answers) st more = replies g call (asked g st.shared call st.to) y st answers more
 answers_call g call (Runs block routine ∷ answers) st more = runs g call (asked g st.shared call st.to) block routine st answers more
@@ -106,20 +106,20 @@ answers_call g call (Returns y ∷ answers) st more = returned_by g y st answers
 answers_call g call (ReturnsAndRuns block routine ∷ answers) st more = runs_later g block routine st answers more
 answers_call g call (Destroys key routine n ∷ answers) st more = stops st
 
-abbrev pub at_shared : Setting → Act → Standing → (Standing → Tale) → Tale
+abbrev pub at_shared : Setting → Act → Example → (Example → Tale) → Tale
 at_shared g (Asks call) st more = answers_call g call st.answers st more
 at_shared g _ st more =
     at_move (shared_step g st.shared st.to) (record st { shared = with_one (written g st.shared st.to) st.shared }) st.answers more
 
 -- ---- the thread's end
 
-abbrev pub at_end : Setting → List Answer → Standing → (Standing → Tale) → Tale
+abbrev pub at_end : Setting → List Answer → Example → (Example → Tale) → Tale
 at_end g (Destroys key routine n ∷ answers) st more = at_move (begins_destructor g key routine n st.to) st answers more
-at_end g _ st more = record { lines = what.End st.to.value ∷ []; standing = st }
+at_end g _ st more = record { lines = what.End st.to.value ∷ []; example = st }
 
 -- ---- the whole
 
-abbrev pub goes : Setting → Next → Standing → (Standing → Tale) → Tale
+abbrev pub goes : Setting → Next → Example → (Example → Tale) → Tale
 goes g (GoesOutward m) st more = at_move m st st.answers more
 goes g (UndoesOnce block m) st more = at_move m st st.answers more
 goes g EndsThread st more = at_end g st.answers st more
@@ -129,6 +129,6 @@ goes g (IsAtPoint h) st more = at_shared g (act_at h) st more
 goes g (StepsQuietly m) st more = at_move m st st.answers more
 
 -- At most so many steps, until the thread has ended or a call has no answer.
-unfoldable pub tale : ℕ → Setting → Standing → Tale
+unfoldable pub tale : ℕ → Setting → Example → Tale
 tale zero g st = stops st
 tale (suc n) g st = goes g (next g st.to) st (tale n g)

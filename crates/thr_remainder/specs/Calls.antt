@@ -16,15 +16,15 @@ use Rattle.thr_syntax.specs.declared.expr.Expr.{Expr}
 use Rattle.thr_syntax.specs.declared.dce.DceCall.{DceCall}
 use Rattle.thr_syntax.specs.declared.dce.DceCall.TheVariants as dce
 
--- Where a cancel is delivered in the call's place (docs/machine.md, "Cancels").
-abbrev pub is_point : DceCall → Bool
-is_point dce.Testcancel = true
-is_point (dce.CondWait c m) = true
-is_point (dce.CondTimedwait c m e) = true
-is_point (dce.Join e v) = true
-is_point (dce.DelayNp e) = true
-is_point (dce.Read p v w) = true
-is_point (dce.Write p e) = true
+-- The calls that are points: a cancel is delivered in their place (docs/machine.md, "Cancels").
+abbrev pub is_point : CallWord → Bool
+is_point word.Testcancel = true
+is_point word.CondWait = true
+is_point word.CondTimedwait = true
+is_point word.Join = true
+is_point word.DelayNp = true
+is_point word.Read = true
+is_point word.Write = true
 is_point _ = false
 
 -- ---- arguments

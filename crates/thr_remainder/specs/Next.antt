@@ -6,18 +6,21 @@ use Rattle.thr_syntax.specs.Shared.{is_shared}
 use Rattle.thr_remainder.specs.declared.unwinding.Unwinding.{Unwinding}
 use Rattle.thr_remainder.specs.Acts.{Act, Asks}
 use Rattle.thr_remainder.specs.Remainders.{Item, Role, Doing, Setting, Remainder, Move, Spot, Place, Nowhere, AtEnd, At, place_in, act_at}
-use Rattle.thr_remainder.specs.Calls.{is_point}
+use Rattle.thr_remainder.specs.Calls.{is_point, shape_of}
 use Rattle.thr_remainder.specs.Steps.{ended, quiet}
 use Rattle.thr_remainder.specs.Outward.{outward, undone}
 
--- The next step of a thread (docs/machine.md, "The next step"): its unwinding goes outward; a once block is undone; nothing is
--- left, so the thread makes its end step; a once routine ends; a shared statement, which may be a point of delivery; or a
--- quiet step.
+-- The next step of a thread (docs/machine.md, "The next step").
 pub data Next : Type 0 where
+  -- its unwinding goes outward
   GoesOutward : (move : Move) → Next
+  -- its unwinding undoes a once block
   UndoesOnce : (block : NameId) (move : Move) → Next
+  -- no item is left, so it makes its end step
   EndsThread : Next
+  -- a once routine ends
   EndsOnce : (block : NameId) (move : Move) → Next
+  -- a shared statement that is no point, or one that is
   Shares : (spot : Spot) → Next
   IsAtPoint : (spot : Spot) → Next
   StepsQuietly : (move : Move) → Next
@@ -36,7 +39,7 @@ next_end (Doing scope block routine) outer r move = EndsOnce block move
 next_end _ outer r move = StepsQuietly move
 
 abbrev pub next_shared : Act → Spot → Next
-next_shared (Asks call) h = if is_point call then IsAtPoint h else Shares h
+next_shared (Asks call) h = if is_point (shape_of call).word then IsAtPoint h else Shares h
 next_shared _ h = Shares h
 
 abbrev pub next_at : Place → Remainder → Move → Next

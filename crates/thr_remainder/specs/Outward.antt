@@ -29,13 +29,15 @@ first_catch s x (c ∷ clauses) = if catches s x c.names then Some c else first_
 
 -- ---- what an unwinding does at an item
 
--- The item is dropped and the unwinding goes on; a body with this role begins in the item's place, and the unwinding ends or
--- is pending in it; the item is a once block's, which is undone by a step of its own; or the item is dropped and the
--- unwinding is lost (docs/machine.md, "Unwindings").
+-- What an unwinding does at an item (docs/machine.md, "Unwindings").
 pub data Meeting : Type 0 where
+  -- the item is dropped, and the unwinding goes on
   Drops : Meeting
+  -- a body begins in the item's place, and the unwinding is over or pending in it
   Begins : (role : Role) (body : Left) (line : What) → Meeting
+  -- the item is a once block's, which is undone by a step of its own
   Undoes : Meeting
+  -- the item is dropped, and the unwinding is lost
   Loses : (line : What) → Meeting
 
 abbrev pub caught_by : ℕ → ℕ → Exc → Option Handler → Meeting

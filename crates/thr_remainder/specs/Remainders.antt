@@ -10,15 +10,15 @@ use Rattle.thr_remainder.specs.declared.unwinding.Unwinding.{Unwinding}
 use Rattle.thr_remainder.specs.Places.{Placed, Left, Ways}
 use Rattle.thr_remainder.specs.Acts.{Act, act_of}
 
--- What an item is of (docs/machine.md, "What is left to do"): a call, with its locals, the parameter first, and the local of
--- its caller that takes the returned value; a try in its body, in a catch body with what was caught, or in its FINALLY body
--- with the unwinding for which it runs; a once block whose routine runs; or a key whose destructor runs. Tries, once blocks
--- and destructors have the number of their scope.
+-- What an item is of (docs/machine.md, "What is left to do").
 pub data Role : Type 0 where
+  -- a call: its locals, the parameter first, and the local of its caller that takes the returned value
   Calling : (locals : List ℤ) (place : Option ℕ) → Role
+  -- a try in its body, in a catch body with what was caught, or in its FINALLY body with the unwinding for which it runs
   Trying : (scope : ℕ) (ways : Ways) → Role
   Catching : (scope : ℕ) (caught : Exc) → Role
   Finishing : (scope : ℕ) (pending : Option Unwinding) → Role
+  -- a once block, or a key, and the routine that runs for it
   Doing : (scope : ℕ) (block routine : NameId) → Role
   Barrier : (scope : ℕ) (key routine : NameId) → Role
 
@@ -27,19 +27,20 @@ pub record Item : Type 0 where
   pub role : Role
   pub inside : Left
 
--- What a thread has still to do (docs/machine.md, "What is left to do"): the items, of which each stands inside the next, and
--- which are the frames of its stack; the unwinding under way; the value that is kept for the thread's end; the number of its
--- last reply; and how many scopes and unwindings it has had.
+-- What a thread has still to do (docs/machine.md, "What is left to do").
 pub record Remainder : Type 0 where
+  -- the frames of its stack, of which each stands inside the next
   pub items : List Item
   pub under_way : Option Unwinding
+  -- what is kept for the thread's end
   pub value : ℤ
+  -- the number of its last reply
   pub err : ℤ
+  -- how many it has had
   pub scopes : ℕ
   pub unwindings : ℕ
 
--- What stays while a thread runs: the script, the thread's number, and how many frames its stack has (docs/machine.md,
--- "What is left to do").
+-- What stays while a thread runs: the script, its number, and how many frames fit its stack (docs/machine.md, "Frames").
 pub record Setting : Type 0 where
   pub script : Script
   pub me : ℕ

@@ -26,7 +26,7 @@ use Rattle.thr_remainder.specs.Expressions.{Value, none_shared, value_of}
 use Rattle.thr_remainder.specs.Starts.{fresh, line_of_next, delivered}
 use Rattle.thr_remainder.specs.Calls.{shape_of, arguments, stores}
 use Rattle.thr_remainder.specs.Next.{Next, GoesOutward, UndoesOnce, EndsThread, EndsOnce, Shares, IsAtPoint, StepsQuietly, next}
-use Rattle.thr_remainder.specs.Alone.{Answer, Standing, Tale, tale}
+use Rattle.thr_remainder.specs.Alone.{Answer, Tale, tale}
 
 -- ---- scripts
 
@@ -145,7 +145,7 @@ lines_within size s answers = (tale_of size s main (pos 0) answers).lines
 -- What is left of that thread after so many steps.
 abbrev pub after_steps : Script → List Answer → ℕ → Remainder
 after_steps s answers n =
-    (tale n (setting_of 256 s) (record { to = fresh s main (pos 0); shared = none_shared; answers = answers })).standing.to
+    (tale n (setting_of 256 s) (record { to = fresh s main (pos 0); shared = none_shared; answers = answers })).example.to
 
 -- What this is after 0 and more steps, so many times.
 abbrev pub before_each : {A : Type 0} → (Remainder → A) → Script → List Answer → ℕ → List A

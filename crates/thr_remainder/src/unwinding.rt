@@ -11,7 +11,7 @@ pub enum Cause {
     Exit(i64),
 }
 
-/// An unwinding with its number, from 1 on in each thread (docs/machine.md, "Frames and unwindings").
+/// An unwinding with its number, from 1 on in each thread (docs/machine.md, "Unwindings").
 #[derive(Clone, Copy, Debug, PartialEq, Eq)]
 pub struct Unwinding {
     pub number: u64,

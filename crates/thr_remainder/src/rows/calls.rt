@@ -141,19 +141,15 @@ pub fn variables()
 #[tactic(auto, unfolding(crate::specs::Computing::remainder_words))]
 pub fn points()
     ensures points { map is_point
-        (dce.Testcancel ∷ dce.CondWait c m ∷ dce.CondTimedwait c m expr.Me ∷ dce.Join expr.Me (Local 1) ∷ dce.DelayNp expr.Me
-        ∷ dce.Read p (Local 1) (Local 2) ∷ dce.Write p expr.Me ∷ [])
+        (word.Join ∷ word.Testcancel ∷ word.DelayNp ∷ word.CondWait ∷ word.CondTimedwait ∷ word.Read ∷ word.Write ∷ [])
         ≡ replicate 7 true }
     ensures others { map is_point
-        (dce.AttrCreate a ∷ dce.AttrDelete a ∷ dce.AttrSetsched a policy.Fifo ∷ dce.AttrSetprio a expr.Me
-        ∷ dce.AttrSetinheritsched a true ∷ dce.AttrSetstacksize a expr.Me ∷ dce.Create (Local 1) None r expr.Me
-        ∷ dce.Detach expr.Me ∷ dce.Yield ∷ dce.Cancel expr.Me ∷ dce.Setcancel true (Local 1)
-        ∷ dce.Setasynccancel true (Local 1) ∷ dce.Setprio expr.Me expr.Err (Local 1) ∷ dce.Getprio expr.Me (Local 1)
-        ∷ dce.Setscheduler expr.Me policy.Bg expr.Err (Local 1) ∷ dce.Getscheduler expr.Me (Local 1)
-        ∷ dce.GetExpirationNp expr.Me (Local 1) ∷ dce.MutexattrCreate b ∷ dce.MutexattrSetkindNp b kind.Fast
-        ∷ dce.MutexattrDelete b ∷ dce.MutexInit m None ∷ dce.MutexDestroy m ∷ dce.MutexLock m ∷ dce.MutexTrylock m (Local 1)
-        ∷ dce.MutexUnlock m ∷ dce.LockGlobalNp ∷ dce.UnlockGlobalNp ∷ dce.CondInit c ∷ dce.CondDestroy c ∷ dce.CondSignal c
-        ∷ dce.CondBroadcast c ∷ dce.Once o r ∷ dce.Keycreate k None ∷ dce.Setspecific k expr.Me
-        ∷ dce.Getspecific k (Local 1) ∷ dce.Close p ∷ [])
+        (word.AttrCreate ∷ word.AttrDelete ∷ word.AttrSetsched ∷ word.AttrSetprio ∷ word.AttrSetinheritsched
+        ∷ word.AttrSetstacksize ∷ word.Create ∷ word.Detach ∷ word.Yield ∷ word.Cancel ∷ word.Setcancel
+        ∷ word.Setasynccancel ∷ word.Setprio ∷ word.Getprio ∷ word.Setscheduler ∷ word.Getscheduler ∷ word.GetExpirationNp
+        ∷ word.MutexattrCreate ∷ word.MutexattrSetkindNp ∷ word.MutexattrDelete ∷ word.MutexInit ∷ word.MutexDestroy
+        ∷ word.MutexLock ∷ word.MutexTrylock ∷ word.MutexUnlock ∷ word.LockGlobalNp ∷ word.UnlockGlobalNp ∷ word.CondInit
+        ∷ word.CondDestroy ∷ word.CondSignal ∷ word.CondBroadcast ∷ word.Once ∷ word.Keycreate ∷ word.Setspecific
+        ∷ word.Getspecific ∷ word.Close ∷ [])
         ≡ replicate 36 false }
 {}

@@ -1,13 +1,15 @@
 //! Tries: how they end by themselves, which clause catches, and what `this` and `reraise` mean.
 
 ghost use Rattle.std.specs.Prelude.{◌≡◌, pos, negsuc, ◌∷◌, [], None};
-ghost use Rattle.thr_values.specs.Exceptions.{pipe_e};
+ghost use Rattle.thr_values.specs.Exceptions.{cancel_e, pipe_e};
 ghost use Rattle.thr_values.specs.declared.exception.Exc.TheVariants.{Address, Status};
 ghost use Rattle.thr_values.specs.declared.history.What.TheVariants as what;
 ghost use Rattle.thr_syntax.specs.declared.expr.ExcRef.TheVariants.{Named, This};
 ghost use Rattle.thr_syntax.specs.declared.expr.Expr.TheVariants as expr;
 ghost use Rattle.thr_syntax.specs.declared.tree.Item.TheVariants as item;
 ghost use Rattle.thr_syntax.specs.declared.tree.Stmt.TheVariants as stmt;
+ghost use Rattle.thr_remainder.specs.Places.{Finally, nothing};
+ghost use Rattle.thr_remainder.specs.Remainders.{Calling, Catching, Trying, caught_in};
 ghost use Rattle.thr_remainder.specs.Samples.{a, b, catch, catch_all, lines_of, named, num, r, routine, say, script};
 ghost use Rattle.thr_remainder.specs.Starts.{at};
 
@@ -89,6 +91,13 @@ pub fn raises_in_catch_bodies()
 /// `this` is what the innermost catch body of the routine has caught.
 #[tactic(auto, unfolding(crate::specs::Computing::remainder_words))]
 pub fn this_exception()
+    ensures not_beyond_the_call { caught_in
+        (record { role = Trying 2 (Finally (nothing 5)); inside = nothing 4 }
+        ∷ record { role = Calling [] None; inside = nothing 6 }
+        ∷ record { role = Catching 1 pipe_e; inside = nothing 9 }
+        ∷ record { role = Calling [] None; inside = nothing 10 }
+        ∷ [])
+        ≡ cancel_e }
     ensures in_finally_body { lines_of
         (script (item.Status a (pos 7) ∷ []) 0
             (stmt.TryCatch (stmt.Raise a ∷ [])
