@@ -2,3 +2,4 @@ pub mod ActLaws
 pub mod SizeLaws
 pub mod ValueLaws
 pub mod StandingLaws
+pub mod ScopeLaws

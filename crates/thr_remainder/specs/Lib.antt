@@ -5,6 +5,7 @@ pub mod Remainders
 pub mod Expressions
 pub mod Starts
 pub mod Standing
+pub mod Scopes
 pub mod Calls
 pub mod Steps
 pub mod Outward

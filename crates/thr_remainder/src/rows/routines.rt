@@ -14,7 +14,10 @@ ghost use Rattle.thr_syntax.specs.declared.tree.Interface.TheVariants as interfa
 ghost use Rattle.thr_syntax.specs.declared.tree.Item.TheVariants as item;
 ghost use Rattle.thr_syntax.specs.declared.tree.Stmt.TheVariants as stmt;
 ghost use Rattle.thr_remainder.specs.Alone.{Replies, Runs};
-ghost use Rattle.thr_remainder.specs.Samples.{b, c, call, catch, catch_all, lines_at, lines_of, lines_within, local, main, named, num, o, r, routine, say, script, shared, two, x};
+ghost use Rattle.thr_remainder.specs.Places.{nothing};
+ghost use Rattle.thr_remainder.specs.Remainders.{Calling};
+ghost use Rattle.thr_remainder.specs.Samples.{b, c, call, catch, catch_all, lines_at, lines_of, lines_within, local, main, named, num, o, r, routine, say, script, setting_of, shared, two, x};
+ghost use Rattle.thr_remainder.specs.Steps.{quiet};
 ghost use Rattle.thr_remainder.specs.Starts.{at};
 
 /// What a call returns, and where it is stored.
@@ -42,6 +45,12 @@ pub fn returned_values()
         ≡ what.Try 1 (at 7) ∷ what.Finally 1 0 ∷ what.Say (pos 5) ∷ what.Endfin 1 ∷ what.End (pos 0) ∷ [] }
     ensures outermost { lines_at (script [] 0 (stmt.Return (expr.Two op.Sub (local 0) (num 1)) ∷ [])) main (pos 4) []
         ≡ what.End (pos 3) ∷ [] }
+    ensures kept_at_the_end { (quiet (setting_of 256 (script [] 0 []))
+        (record {
+            items = record { role = Calling (pos 4 ∷ []) None; inside = nothing 3 } ∷ [];
+            under_way = None; value = pos 5; err = pos 1; scopes = 2; unwindings = 3;
+        })).to
+        ≡ record { items = []; under_way = None; value = pos 0; err = pos 1; scopes = 2; unwindings = 3 } }
     ensures of_a_once_routine { lines_of
         (script (item.Once o ∷ routine r 0 (stmt.Say (local 0) ∷ stmt.Return (num 5) ∷ []) ∷ []) 1
             (stmt.Dce (dce.Once o r) ∷ stmt.Say (local 1) ∷ [])) (Runs o r ∷ [])
