@@ -1,5 +1,5 @@
 -- What each statement does first.
-use Rattle.std.proofs.Common.{◌≡◌, ℕ, ◌+◌, List, [], ◌∷◌, Option, Some, None, ap}
+use Rattle.std.proofs.Common.{◌≡◌, ℕ, ◌+◌, List, Option, ap}
 use Rattle.thr_values.specs.declared.number.NameId.{NameId}
 use Rattle.thr_syntax.specs.declared.expr.Var as variable
 use Rattle.thr_syntax.specs.declared.expr.Expr.{Expr}
@@ -8,7 +8,7 @@ use Rattle.thr_syntax.specs.declared.tree.Clause.{Clause}
 use Rattle.thr_syntax.specs.declared.tree.Stmt.{Stmt, Set, Say, If, While, TryCatch, TryFinally, Raise, Reraise, Call, Return, Exit, Dce}
 use Rattle.thr_syntax.specs.declared.tree.Stmt.TheVariants as stmts
 use Rattle.thr_remainder.specs.Places.{Left, body_size, body_then, stmt_then, body_at, Catches, Finally, handlers_at}
-use Rattle.thr_remainder.specs.Acts.{Act, Sets, Says, Chooses, Repeats, Tries, Raises, RaisesAgain, Calls, Returns, Exits, Asks, act_in, act_of, else_then}
+use Rattle.thr_remainder.specs.Acts.{Sets, Says, Chooses, Repeats, Tries, Raises, RaisesAgain, Calls, Returns, Exits, Asks, act_in, act_of, else_then}
 
 module _ (line : ℕ) (rest : Left) where
   pub act_of-Set : (v : variable.Var) (e : Expr) → act_of line (Set v e) rest ≡ Sets v e

@@ -1,5 +1,5 @@
 -- The numbers of open scopes rise inward at each step.
-use Rattle.std.proofs.Common.{◌≡◌, ℕ, ◌+◌, ◌<◌, ◌≤◌, ℤ, pos, Bool, true, false, List, [], ◌∷◌, Option, Some, None, Ok, Err, arith, refl, sym, subst, if◌then◌else◌}
+use Rattle.std.proofs.Common.{◌≡◌, ℕ, ◌+◌, ◌≤◌, ℤ, pos, Bool, true, false, List, [], ◌∷◌, Option, Some, None, Ok, Err, arith, refl, sym, subst, if◌then◌else◌}
 use Rattle.thr_values.specs.declared.number.NameId.{NameId}
 use Rattle.thr_values.specs.declared.exception.Exc.{Exc}
 use Rattle.thr_values.specs.declared.history.What.{What}
@@ -11,14 +11,14 @@ use Rattle.thr_syntax.specs.declared.tree.Script.{Script}
 use Rattle.thr_remainder.specs.declared.unwinding.Cause.{Cause}
 use Rattle.thr_remainder.specs.declared.unwinding.Cause.TheVariants.{Raised, Exit}
 use Rattle.thr_remainder.specs.declared.unwinding.Unwinding.{Unwinding}
-use Rattle.thr_remainder.specs.Places.{Placed, Left, Handler, Ways, Catches, Finally}
+use Rattle.thr_remainder.specs.Places.{Placed, Handler, Ways, Catches, Finally}
 use Rattle.thr_remainder.specs.Acts.{Act, Sets, Says, Chooses, Repeats, Tries, Raises, RaisesAgain, Calls, Returns, Exits, Asks}
 use Rattle.thr_remainder.specs.Declarations.{Entry, entry_of}
 use Rattle.thr_remainder.specs.Remainders.{Item, Role, Calling, Trying, Catching, Finishing, Doing, Barrier, Setting, Remainder, Move, Spot, Place, Nowhere, AtEnd, At, place_in, place_inside, act_at, passed, role_with, is_call, with_local, has_room}
 use Rattle.thr_remainder.specs.Expressions.{Value, SharedValues, none_shared, value_of}
 use Rattle.thr_remainder.specs.Starts.{fresh, begins, begins_once, begins_destructor}
-use Rattle.thr_remainder.specs.Steps.{stored, place_for, variable_set, items_tried, or_raised, made, ended, step_at, quiet, shared_step}
-use Rattle.thr_remainder.specs.Outward.{Meeting, Drops, Begins, Undoes, Loses, meeting, at_try, caught_by, first_catch, met, outward_from, outward, undone}
+use Rattle.thr_remainder.specs.Steps.{stored, place_for, variable_set, or_raised, made, ended, step_at, quiet, shared_step}
+use Rattle.thr_remainder.specs.Outward.{Meeting, Drops, Begins, Undoes, Loses, meeting, at_try, caught_by, first_catch, met, outward_from, outward}
 use Rattle.thr_remainder.specs.Replies.{stored_in, raised_if, replied_by, replied_at, replied, raised_by}
 use Rattle.thr_remainder.specs.Calls.{stores}
 use Rattle.thr_remainder.specs.Scopes.{scope_of, IsBelow, bound, AreScopes, HasScopes}
@@ -170,7 +170,7 @@ outward_from_keeps : (s : Script) (u : Unwinding) (items : List Item) (r : Remai
 outward_from_keeps s u [] r h = record { open_scopes = tt }
 outward_from_keeps s u (i ∷ outer) r h =
     met_keeps (r.scopes + 1) (meeting s i.role u) i outer r (outward_from s u outer r) refl (meeting_same s i.role u) h
-      (outward_from_keeps s u outer r (outside (r.scopes + 1) (scope_of i.role) outer h))
+    (outward_from_keeps s u outer r (outside (r.scopes + 1) (scope_of i.role) outer h))
 
 pub outward_keeps : (g : Setting) (u : Unwinding) (r : Remainder) → HasScopes r → HasScopes (outward g u r).to
 unfolding outward

@@ -1,6 +1,5 @@
 -- How many lines each statement has.
 use Rattle.std.proofs.Common.{◌≡◌, ℕ, ◌+◌, List, [], ◌∷◌, ◌++◌, map, length, length-append, Option, Some, None, arith, refl, ap, ◌∙◌}
-use Rattle.std.specs.Option.{option_map}
 use Rattle.thr_values.specs.declared.number.NameId.{NameId}
 use Rattle.thr_syntax.specs.declared.expr.Var as variable
 use Rattle.thr_syntax.specs.declared.expr.Expr.{Expr}

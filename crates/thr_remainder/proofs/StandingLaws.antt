@@ -15,8 +15,8 @@ use Rattle.thr_syntax.specs.declared.tree.Script.{Script}
 use Rattle.thr_syntax.specs.Lines.{joined, stmt_lines, body_lines, stmt_step, clause_step, clause_form, head_lines, routine_lines, item_lines, lines_of}
 use Rattle.thr_syntax.proofs.FoldLaws.{each_stmt-If, each_stmt-While, each_stmt-TryCatch, each_stmt-TryFinally}
 use Rattle.thr_syntax.proofs.TreeInduction.{StmtCases, stmt_induction}
-use Rattle.thr_remainder.specs.Places.{Placed, Left, size, body_size, placed, body_then, stmt_then, body_at, Catches, Finally, handlers_at}
-use Rattle.thr_remainder.specs.Acts.{Act, act_of, else_then}
+use Rattle.thr_remainder.specs.Places.{Placed, Left, size, body_size, placed, body_then, stmt_then, body_at, handlers_at}
+use Rattle.thr_remainder.specs.Acts.{Act, act_of}
 use Rattle.thr_remainder.specs.Declarations.{Entry, is_same_name, entry_at, entry_here, entry_in, routine_of}
 use Rattle.thr_remainder.specs.Standing.{StandAt, can_close, ClosesAt, ArePlaced, IsLeft, AreHandlers, IsAct}
 use Rattle.thr_remainder.proofs.ActLaws.{act_of-Set, act_of-Say, act_of-If, act_of-While, act_of-TryCatch, act_of-TryFinally, act_of-Raise, act_of-Reraise, act_of-Call, act_of-Return, act_of-Exit, act_of-Dce}
@@ -94,9 +94,8 @@ module _ (text : List Form) where
   handlers_stand (c ∷ clauses) line h =
       let rest : List Form = clauses_lines clauses ++ form.Endtry ∷ [] in
       let inside : StandAt text (line + 1) (body_lines c.body ++ rest) =
-          subst (StandAt text (line + 1)) (append_assoc (body_lines c.body) (clauses_lines clauses) (form.Endtry ∷ [])) (next_line line (clause_form c.names) _ h) in
-      let below : StandAt text (line + 1 + length (body_lines c.body)) rest = below_body (line + 1) c.body rest inside in
-      (
+      subst (StandAt text (line + 1)) (append_assoc (body_lines c.body) (clauses_lines clauses) (form.Endtry ∷ [])) (next_line line (clause_form c.names) _ h) in
+      let below : StandAt text (line + 1 + length (body_lines c.body)) rest = below_body (line + 1) c.body rest inside in (
         first_lines line (clause_form c.names ∷ []) _ h,
         body_stands (line + 1) c.body rest inside (first_closes clauses (line + 1 + length (body_lines c.body)) below),
         handlers_stand clauses (line + 1 + length (body_lines c.body)) below,
@@ -187,7 +186,7 @@ module _ (text : List Form) where
   entry_stands : (line : ℕ) (r : Routine) → StandAt text line (routine_lines r) → IsLeft text (entry_at line r).body
   entry_stands line r h =
       let inside : StandAt text (line + length r.locals) (body_lines r.body ++ form.End ∷ []) =
-          last_lines line (line + length r.locals) (head_lines r.name r.locals) (body_lines r.body ++ form.End ∷ []) h (ap (λ n. line + n) (sym (head_size r.name r.locals))) in
+      last_lines line (line + length r.locals) (head_lines r.name r.locals) (body_lines r.body ++ form.End ∷ []) h (ap (λ n. line + n) (sym (head_size r.name r.locals))) in
       body_stands (line + length r.locals) r.body _ inside (closes_at (line + length r.locals + length (body_lines r.body)) form.End [] (below_body (line + length r.locals) r.body _ inside) refl)
 
   -- The entry that is found here, if there is one.
@@ -222,8 +221,8 @@ module _ (text : List Form) where
   items_stand line [] name h = tt
   items_stand line (i ∷ items) name h =
       either_entry (entry_here line i name) (entry_in (line + length (item_lines i)) items name)
-        (here_stands line i name (first_lines line (item_lines i) _ h))
-        (items_stand (line + length (item_lines i)) items name (last_lines line (line + length (item_lines i)) (item_lines i) _ h refl))
+      (here_stands line i name (first_lines line (item_lines i) _ h))
+      (items_stand (line + length (item_lines i)) items name (last_lines line (line + length (item_lines i)) (item_lines i) _ h refl))
 
 script_stands : (s : Script) → StandAt (lines_of s) 2 (joined (map item_lines s.items))
 script_stands s = record { above = form.Header ∷ []; below = []; parts = ap (λ xs. form.Header ∷ xs) (sym (append-nil (joined (map item_lines s.items)))); place = refl }

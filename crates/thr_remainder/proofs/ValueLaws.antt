@@ -1,5 +1,5 @@
 -- Tests on numbers and exceptions, and what they decide.
-use Rattle.std.proofs.Common.{◌≡◌, ◌<◌, ◌^◌, ◌↔◌, ℕ, ℤ, pos, negsuc, Bool, true, false, IsTrue, nat_lt, ◌==◌, ap, arith}
+use Rattle.std.proofs.Common.{◌<◌, ◌^◌, ◌↔◌, ℕ, ℤ, pos, negsuc, IsTrue, nat_lt, ap, arith}
 use Rattle.std.proofs.lemmas.Bool.{false≢true}
 use Rattle.std.proofs.lemmas.Bool.Decides.{nat_tests}
 use Rattle.std.specs.Prelude.{FitsSigned}

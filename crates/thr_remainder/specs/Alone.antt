@@ -1,15 +1,14 @@
 -- A thread by itself, for worked examples: its calls are answered as the example says (docs/machine.md, "The next step").
-use Rattle.std.specs.Prelude.{ℕ, zero, suc, ℤ, pos, List, [], ◌∷◌, ◌++◌, if◌then◌else◌, Option, Some, None, Ok, Err}
+use Rattle.std.specs.Prelude.{ℕ, zero, suc, ℤ, List, [], ◌∷◌, ◌++◌, if◌then◌else◌, Option, Some, None, Ok, Err}
 use Rattle.thr_values.specs.declared.number.NameId.{NameId}
 use Rattle.thr_values.specs.declared.reply.Reply.{Reply}
 use Rattle.thr_values.specs.declared.reply.Reply.TheVariants as reply
 use Rattle.thr_values.specs.declared.history.What.{What}
 use Rattle.thr_values.specs.declared.history.What.TheVariants as what
 use Rattle.thr_syntax.specs.declared.dce.DceCall.{DceCall}
-use Rattle.thr_syntax.specs.declared.dce.DceCall.TheVariants as dce
 use Rattle.thr_remainder.specs.Acts.{Act, Asks}
 use Rattle.thr_remainder.specs.Declarations.{is_same_name}
-use Rattle.thr_remainder.specs.Remainders.{Setting, Remainder, Move, Spot, act_at}
+use Rattle.thr_remainder.specs.Remainders.{Setting, Remainder, Move, act_at}
 use Rattle.thr_remainder.specs.Expressions.{SharedValues}
 use Rattle.thr_remainder.specs.Starts.{raised, delivered, begins_once, begins_destructor}
 use Rattle.thr_remainder.specs.Steps.{shared_step, written}

@@ -1,13 +1,12 @@
 -- The next step of a thread that owes nothing (docs/machine.md, "The next step").
-use Rattle.std.specs.Prelude.{ℕ, List, [], ◌∷◌, Bool, true, false, if◌then◌else◌, Option, Some, None}
+use Rattle.std.specs.Prelude.{List, [], ◌∷◌, if◌then◌else◌, Option, Some, None}
 use Rattle.thr_values.specs.declared.number.NameId.{NameId}
-use Rattle.thr_syntax.specs.declared.dce.DceCall.{DceCall}
 use Rattle.thr_syntax.specs.Shared.{is_shared}
 use Rattle.thr_remainder.specs.declared.unwinding.Unwinding.{Unwinding}
 use Rattle.thr_remainder.specs.Acts.{Act, Asks}
 use Rattle.thr_remainder.specs.Remainders.{Item, Role, Doing, Setting, Remainder, Move, Spot, Place, Nowhere, AtEnd, At, place_in, act_at}
 use Rattle.thr_remainder.specs.Calls.{is_point, shape_of}
-use Rattle.thr_remainder.specs.Steps.{ended, quiet}
+use Rattle.thr_remainder.specs.Steps.{quiet}
 use Rattle.thr_remainder.specs.Outward.{outward, undone}
 
 -- The next step of a thread (docs/machine.md, "The next step").

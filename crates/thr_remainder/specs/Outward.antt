@@ -1,5 +1,5 @@
 -- Unwindings that go outward (docs/machine.md, "Unwindings").
-use Rattle.std.specs.Prelude.{ℕ, ℤ, negsuc, List, [], ◌∷◌, Bool, true, false, if◌then◌else◌, Option, Some, None}
+use Rattle.std.specs.Prelude.{ℕ, ℤ, negsuc, List, [], ◌∷◌, Bool, true, if◌then◌else◌, Option, Some, None}
 use Rattle.thr_values.specs.declared.number.NameId.{NameId}
 use Rattle.thr_values.specs.declared.exception.Exc.{Exc}
 use Rattle.thr_values.specs.declared.history.What.{What}
@@ -13,7 +13,7 @@ use Rattle.thr_remainder.specs.Places.{Left, Handler, Ways, Catches, Finally}
 use Rattle.thr_remainder.specs.Declarations.{exception_value}
 use Rattle.thr_remainder.specs.Remainders.{Item, Role, Calling, Trying, Catching, Finishing, Doing, Barrier, Setting, Remainder, Move}
 use Rattle.thr_remainder.specs.Expressions.{is_same}
-use Rattle.thr_remainder.specs.Starts.{at, still}
+use Rattle.thr_remainder.specs.Starts.{at}
 
 -- ---- catch clauses
 

@@ -1,5 +1,5 @@
 -- What a thread has still to do (docs/machine.md, "What is left to do").
-use Rattle.std.specs.Prelude.{ℕ, ◌+◌, nat_le, ℤ, List, [], ◌∷◌, length, slice_set, Bool, true, false, if◌then◌else◌, Option, Some, None}
+use Rattle.std.specs.Prelude.{ℕ, ◌+◌, nat_le, ℤ, List, [], ◌∷◌, length, slice_set, Bool, true, false, if◌then◌else◌, Option}
 use Rattle.thr_values.specs.declared.number.NameId.{NameId}
 use Rattle.thr_values.specs.declared.exception.Exc.{Exc}
 use Rattle.thr_values.specs.declared.history.What.{What}

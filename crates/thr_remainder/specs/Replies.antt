@@ -1,5 +1,5 @@
 -- A thread's part of a call: what it raises before it asks, and what it does with the reply (docs/machine.md, "Replies").
-use Rattle.std.specs.Prelude.{ℕ, ℤ, List, [], ◌∷◌, Bool, true, false, ◌&&◌, if◌then◌else◌, Option, Some, None, Result, Ok, Err}
+use Rattle.std.specs.Prelude.{ℤ, List, [], ◌∷◌, Bool, true, false, ◌&&◌, if◌then◌else◌, Option, Some, None, Result, Ok, Err}
 use Rattle.thr_values.specs.declared.number.NameId.{NameId}
 use Rattle.thr_values.specs.declared.exception.Exc.{Exc}
 use Rattle.thr_values.specs.declared.reply.Reply.{Reply}

@@ -5,8 +5,7 @@ use Rattle.thr_values.specs.declared.history.What.{What}
 use Rattle.thr_values.specs.declared.history.What.TheVariants as what
 use Rattle.thr_syntax.specs.declared.expr.Var.{Var}
 use Rattle.thr_syntax.specs.declared.expr.Var.TheVariants.{Local, Shared}
-use Rattle.thr_syntax.specs.declared.expr.Expr.{Expr}
-use Rattle.thr_remainder.specs.Places.{Left, Ways, Catches, Finally}
+use Rattle.thr_remainder.specs.Places.{Ways, Catches, Finally}
 use Rattle.thr_remainder.specs.Acts.{Act, Sets, Says, Chooses, Repeats, Tries, Raises, RaisesAgain, Calls, Returns, Exits, Asks}
 use Rattle.thr_remainder.specs.Declarations.{exception_value, entry_of}
 use Rattle.thr_remainder.specs.Remainders.{Item, Role, Calling, Trying, Catching, Finishing, Doing, Barrier, Setting, Remainder, Move, Spot, Place, Nowhere, AtEnd, At, place_in, act_at, goes_on, passed, with_local, caught_in}

@@ -35,7 +35,8 @@ pub fn tests_of_numbers_are_right()
 
 /// The body of a routine stands at its lines of the canonical text, and a line that ends a body closes it.
 pub fn routines_stand_at_their_lines()
-    ensures { (s : Script) → (name : NameId) → (entry : Entry) → routine_of s name ≡ Some entry → IsLeft (lines_of s) entry.body }
+    ensures { (s : Script) → (name : NameId) → (entry : Entry) → routine_of s name
+        ≡ Some entry → IsLeft (lines_of s) entry.body }
 {}
 
 /// What a statement does first leaves statements that stand at their lines of the canonical text.
@@ -48,7 +49,8 @@ pub fn statements_stand_at_their_lines()
 pub fn scopes_rise_inward()
     ensures fresh { (s : Script) → (routine : NameId) → (n : ℤ) → HasScopes (fresh s routine n) }
     ensures quiet { (g : Setting) → (r : Remainder) → HasScopes r → HasScopes (quiet g r).to }
-    ensures shared { (g : Setting) → (shared : SharedValues) → (r : Remainder) → HasScopes r → HasScopes (shared_step g shared r).to }
+    ensures shared { (g : Setting) → (shared : SharedValues) → (r : Remainder) → HasScopes r → HasScopes
+        (shared_step g shared r).to }
     ensures outward { (g : Setting) → (u : Unwinding) → (r : Remainder) → HasScopes r → HasScopes (outward g u r).to }
     ensures replied { (g : Setting) → (reply : Reply) → (r : Remainder) → HasScopes r → HasScopes (replied g reply r).to }
     ensures once { (g : Setting) → (block : NameId) → (routine : NameId) → (r : Remainder) → HasScopes r

@@ -67,7 +67,8 @@ pub fn thread_calls()
 pub fn lock_calls()
     ensures { call_lines
         (dce.MutexattrCreate b ∷ dce.MutexattrSetkindNp b kind.Fast ∷ dce.MutexattrSetkindNp b kind.Recursive
-        ∷ dce.MutexattrSetkindNp b kind.Nonrecursive ∷ dce.MutexattrDelete b ∷ dce.MutexInit m None ∷ dce.MutexInit m (Some b)
+        ∷ dce.MutexattrSetkindNp b kind.Nonrecursive ∷ dce.MutexattrDelete b ∷ dce.MutexInit m None
+        ∷ dce.MutexInit m (Some b)
         ∷ dce.MutexDestroy m ∷ dce.MutexLock m ∷ dce.MutexTrylock m (Local 1) ∷ dce.MutexUnlock m ∷ dce.LockGlobalNp
         ∷ dce.UnlockGlobalNp ∷ dce.CondInit c ∷ dce.CondDestroy c ∷ dce.CondWait c m ∷ dce.CondTimedwait c m expr.Me
         ∷ dce.CondSignal c ∷ dce.CondBroadcast c ∷ [])

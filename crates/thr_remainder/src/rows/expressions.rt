@@ -20,7 +20,8 @@ pub fn sums()
     ensures difference_above { value (expr.Two op.Sub (num 0) least) ≡ Err intovf_e }
     ensures difference_below { value (expr.Two op.Sub least (num 1)) ≡ Err intovf_e }
     ensures product { value (two op.Mul 6 7) ≡ Ok (pos 42) }
-    ensures product_least { value (expr.Two op.Mul (num 4294967296) (expr.Num (negsuc 2147483647))) ≡ Ok (negsuc 9223372036854775807) }
+    ensures product_least { value (expr.Two op.Mul (num 4294967296) (expr.Num (negsuc 2147483647)))
+        ≡ Ok (negsuc 9223372036854775807) }
     ensures product_above { value (two op.Mul 4294967296 2147483648) ≡ Err intovf_e }
     ensures product_of_least { value (expr.Two op.Mul least minus_one) ≡ Err intovf_e }
 {}
@@ -78,7 +79,8 @@ pub fn first_faults()
     ensures right { value (expr.Two op.Or (num 1) (two op.Div 1 0)) ≡ Err intdiv_e }
     ensures right_of_and { value (expr.Two op.And (num 0) (two op.Rem 1 0)) ≡ Err intdiv_e }
     ensures under_not { value (expr.Not (two op.Div 1 0)) ≡ Err intdiv_e }
-    ensures deep { value (expr.Two op.Equal (expr.Two op.Mul (num 3) (expr.Two op.Sub (num 4) (two op.Add 1 1))) (num 6)) ≡ Ok (pos 1) }
+    ensures deep { value (expr.Two op.Equal (expr.Two op.Mul (num 3) (expr.Two op.Sub (num 4) (two op.Add 1 1))) (num 6))
+        ≡ Ok (pos 1) }
 {}
 
 /// Variables, `self` and `err`.
@@ -96,12 +98,17 @@ pub fn names()
 #[tactic(auto, unfolding(crate::specs::Computing::remainder_words))]
 pub fn exceptions()
     ensures status { value_in (script (item.Status a (negsuc 4) ∷ []) 0 []) (expr.GetStatus (Named a)) ≡ Ok (negsuc 4) }
-    ensures address { value_in (script (item.Status a (pos 5) ∷ item.Exception b ∷ []) 0 []) (expr.GetStatus (Named b)) ≡ Ok (negsuc 0) }
+    ensures address { value_in (script (item.Status a (pos 5) ∷ item.Exception b ∷ []) 0 []) (expr.GetStatus (Named b))
+        ≡ Ok (negsuc 0) }
     ensures built_in { value (expr.GetStatus (Named (named 7))) ≡ Ok (negsuc 0) }
     ensures itself { value_in (script (item.Exception a ∷ []) 0 []) (expr.Matches (Named a) (Named a)) ≡ Ok (pos 1) }
-    ensures two_addresses { value_in (script (item.Exception a ∷ item.Exception b ∷ []) 0 []) (expr.Matches (Named a) (Named b)) ≡ Ok (pos 0) }
-    ensures one_number { value_in (script (item.Status a (pos 5) ∷ item.Status b (pos 5) ∷ []) 0 []) (expr.Matches (Named a) (Named b)) ≡ Ok (pos 1) }
-    ensures two_numbers { value_in (script (item.Status a (pos 5) ∷ item.Status b (negsuc 5) ∷ []) 0 []) (expr.Matches (Named a) (Named b)) ≡ Ok (pos 0) }
-    ensures status_and_address { value_in (script (item.Status a (negsuc 0) ∷ item.Exception b ∷ []) 0 []) (expr.Matches (Named a) (Named b)) ≡ Ok (pos 0) }
+    ensures two_addresses { value_in (script (item.Exception a ∷ item.Exception b
+        ∷ []) 0 []) (expr.Matches (Named a) (Named b)) ≡ Ok (pos 0) }
+    ensures one_number { value_in (script (item.Status a (pos 5) ∷ item.Status b (pos 5)
+        ∷ []) 0 []) (expr.Matches (Named a) (Named b)) ≡ Ok (pos 1) }
+    ensures two_numbers { value_in (script (item.Status a (pos 5) ∷ item.Status b (negsuc 5)
+        ∷ []) 0 []) (expr.Matches (Named a) (Named b)) ≡ Ok (pos 0) }
+    ensures status_and_address { value_in (script (item.Status a (negsuc 0) ∷ item.Exception b
+        ∷ []) 0 []) (expr.Matches (Named a) (Named b)) ≡ Ok (pos 0) }
     ensures built_in_ones { value (expr.Matches (Named (named 7)) (Named (named 8))) ≡ Ok (pos 0) }
 {}

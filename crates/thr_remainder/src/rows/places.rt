@@ -20,10 +20,12 @@ pub fn lines_of_next_steps()
         (script [] 0 (stmt.TryCatch (say 1 ∷ []) (catch_all [] ∷ []) ∷ stmt.TryFinally (say 2 ∷ []) (say 3 ∷ []) ∷ [])) []
         ≡ Some 3 ∷ Some 4 ∷ Some 5 ∷ Some 7 ∷ Some 8 ∷ Some 9 ∷ Some 10 ∷ Some 11 ∷ Some 12 ∷ None ∷ [] }
     ensures catch_bodies { lines_after 6
-        (script [] 0 (stmt.TryCatch (stmt.Raise (named 0) ∷ []) (catch (named 6) [] ∷ catch (named 0) (say 1 ∷ []) ∷ catch_all [] ∷ []) ∷ [])) []
+        (script [] 0 (stmt.TryCatch (stmt.Raise (named 0) ∷ []) (catch (named 6) [] ∷ catch (named 0) (say 1 ∷ [])
+        ∷ catch_all [] ∷ []) ∷ [])) []
         ≡ Some 3 ∷ Some 4 ∷ Some 4 ∷ Some 7 ∷ Some 8 ∷ Some 10 ∷ [] }
     ensures last_catch_body { lines_after 6
-        (script [] 0 (stmt.TryCatch (stmt.Raise (named 0) ∷ []) (catch (named 6) [] ∷ catch_all (say 1 ∷ []) ∷ []) ∷ [])) []
+        (script [] 0 (stmt.TryCatch (stmt.Raise (named 0) ∷ []) (catch (named 6) [] ∷ catch_all (say 1 ∷ []) ∷ [])
+        ∷ [])) []
         ≡ Some 3 ∷ Some 4 ∷ Some 4 ∷ Some 7 ∷ Some 8 ∷ Some 9 ∷ [] }
     ensures loops { lines_after 6 (script [] 0 (stmt.While (num 1) (stmt.If (num 1) (say 1 ∷ []) None ∷ []) ∷ [])) []
         ≡ Some 3 ∷ Some 4 ∷ Some 5 ∷ Some 3 ∷ Some 4 ∷ Some 5 ∷ [] }
@@ -33,7 +35,8 @@ pub fn lines_of_next_steps()
     ensures once_routine { lines_after 6
         (script (item.Once o ∷ routine r 2 (say 1 ∷ []) ∷ []) 0 (stmt.Dce (dce.Once o r) ∷ [])) (Runs o r ∷ [])
         ≡ Some 9 ∷ Some 6 ∷ Some 7 ∷ Some 7 ∷ Some 10 ∷ None ∷ [] }
-    ensures destructor { lines_after 6 (script (item.Key k ∷ routine r 0 (say 1 ∷ []) ∷ []) 0 []) (Destroys k r (pos 1) ∷ [])
+    ensures destructor { lines_after 6 (script (item.Key k ∷ routine r 0 (say 1 ∷ [])
+        ∷ []) 0 []) (Destroys k r (pos 1) ∷ [])
         ≡ Some 7 ∷ None ∷ Some 4 ∷ Some 5 ∷ Some 5 ∷ None ∷ [] }
 {}
 
@@ -43,10 +46,12 @@ pub fn kinds_of_next_steps()
     ensures once_routine { nexts_after 6
         (script (item.Once o ∷ routine r 0 (say 1 ∷ []) ∷ []) 0 (stmt.Dce (dce.Once o r) ∷ [])) (Runs o r ∷ [])
         ≡ codes "shared" ∷ codes "shared" ∷ codes "quiet" ∷ codes "done" ∷ codes "quiet" ∷ codes "end" ∷ [] }
-    ensures destructor { nexts_after 6 (script (item.Key k ∷ routine r 0 (say 1 ∷ []) ∷ []) 0 []) (Destroys k r (pos 1) ∷ [])
+    ensures destructor { nexts_after 6 (script (item.Key k ∷ routine r 0 (say 1 ∷ [])
+        ∷ []) 0 []) (Destroys k r (pos 1) ∷ [])
         ≡ codes "quiet" ∷ codes "end" ∷ codes "shared" ∷ codes "quiet" ∷ codes "quiet" ∷ codes "end" ∷ [] }
     ensures undone { nexts_after 6
-        (script (item.Once o ∷ routine r 0 (stmt.Raise (named 6) ∷ []) ∷ []) 0 (stmt.Dce (dce.Once o r) ∷ [])) (Runs o r ∷ [])
+        (script (item.Once o ∷ routine r 0 (stmt.Raise (named 6) ∷ []) ∷ []) 0 (stmt.Dce (dce.Once o r)
+        ∷ [])) (Runs o r ∷ [])
         ≡ codes "shared" ∷ codes "quiet" ∷ codes "outward" ∷ codes "undone" ∷ codes "outward" ∷ codes "end" ∷ [] }
     ensures lost { nexts_after 5
         (script (item.Key k ∷ routine r 0 (stmt.Raise (named 6) ∷ []) ∷ []) 0 []) (Destroys k r (pos 1) ∷ [])
@@ -61,9 +66,9 @@ pub fn kinds_of_next_steps()
 pub fn deliveries()
     ensures in_place_of_set { delivery_after 5
         (script [] 1
-            (stmt.Dce (dce.Setcancel false (Local 1)) ∷ stmt.Dce (dce.Setasynccancel true (Local 1))
-            ∷ stmt.Dce (dce.Cancel expr.Me) ∷ stmt.Dce dce.Testcancel ∷ stmt.Dce (dce.Setcancel true (Local 1))
-            ∷ stmt.Set (Local 1) (num 9) ∷ stmt.Say (local 1) ∷ []))
+        (stmt.Dce (dce.Setcancel false (Local 1)) ∷ stmt.Dce (dce.Setasynccancel true (Local 1))
+        ∷ stmt.Dce (dce.Cancel expr.Me) ∷ stmt.Dce dce.Testcancel ∷ stmt.Dce (dce.Setcancel true (Local 1))
+        ∷ stmt.Set (Local 1) (num 9) ∷ stmt.Say (local 1) ∷ []))
         (Replies (reply.Value (pos 1)) ∷ Replies (reply.Value (pos 0)) ∷ Replies (reply.Effect effect.Pending)
         ∷ Replies reply.Done ∷ Replies (reply.Value (pos 0)) ∷ [])
         ≡ what.Deliver 1 (at 9) ∷ [] }

@@ -24,12 +24,13 @@ ghost use Rattle.thr_remainder.specs.Starts.{at};
 pub fn error_numbers()
     ensures { said (lines_of
         (script (item.Interface interface.Status ∷ []) 0
-            (stmt.While (num 1) (stmt.Dce dce.Yield ∷ stmt.Say expr.Err ∷ []) ∷ []))
+        (stmt.While (num 1) (stmt.Dce dce.Yield ∷ stmt.Say expr.Err ∷ []) ∷ []))
         (Replies reply.Eperm ∷ Replies reply.Esrch ∷ Replies reply.Eagain ∷ Replies reply.Ebusy ∷ Replies reply.Einval
         ∷ Replies reply.Epipe ∷ Replies reply.Edeadlk ∷ Replies reply.Done ∷ Replies reply.Edeadlk
         ∷ Replies (reply.Value (pos 7)) ∷ Replies reply.Edeadlk ∷ Replies reply.Eof ∷ Replies reply.Edeadlk
         ∷ Replies (reply.Effect effect.Wakes) ∷ Replies reply.Blocks ∷ Returns reply.Epipe ∷ []))
-        ≡ pos 1 ∷ pos 3 ∷ pos 11 ∷ pos 16 ∷ pos 22 ∷ pos 32 ∷ pos 35 ∷ pos 0 ∷ pos 35 ∷ pos 0 ∷ pos 35 ∷ pos 0 ∷ pos 35 ∷ pos 0
+        ≡ pos 1 ∷ pos 3 ∷ pos 11 ∷ pos 16 ∷ pos 22 ∷ pos 32 ∷ pos 35 ∷ pos 0 ∷ pos 35 ∷ pos 0 ∷ pos 35 ∷ pos 0
+        ∷ pos 35 ∷ pos 0
         ∷ pos 32 ∷ [] }
 {}
 
@@ -37,8 +38,10 @@ pub fn error_numbers()
 #[tactic(auto, unfolding(crate::specs::Computing::remainder_words))]
 pub fn error_exceptions()
     ensures some { lines_of
-        (script [] 0 (stmt.While (num 1) (stmt.TryCatch (stmt.Dce dce.Yield ∷ []) (catch_all (stmt.Say expr.Err ∷ []) ∷ []) ∷ []) ∷ []))
-        (Replies reply.Eperm ∷ Replies reply.Esrch ∷ Replies reply.Eagain ∷ Replies reply.Blocks ∷ Returns reply.Ebusy ∷ [])
+        (script [] 0 (stmt.While (num 1) (stmt.TryCatch (stmt.Dce dce.Yield ∷ []) (catch_all (stmt.Say expr.Err ∷ [])
+        ∷ []) ∷ []) ∷ []))
+        (Replies reply.Eperm ∷ Replies reply.Esrch ∷ Replies reply.Eagain ∷ Replies reply.Blocks
+        ∷ Returns reply.Ebusy ∷ [])
         ≡ what.Try 1 (at 4) ∷ call word.Yield [] reply.Eperm ∷ what.Raise 1 use_error_e ∷ what.Catch 1 1 (at 6)
         ∷ what.Say (pos 1) ∷ what.Endcatch 1
         ∷ what.Try 2 (at 4) ∷ call word.Yield [] reply.Esrch ∷ what.Raise 2 existence_e ∷ what.Catch 2 2 (at 6)
@@ -53,7 +56,8 @@ pub fn error_exceptions()
         (Replies reply.Einval ∷ Replies reply.Epipe ∷ Replies reply.Edeadlk ∷ Replies reply.Eof ∷ [])
         ≡ what.Try 1 (at 4) ∷ call word.Yield [] reply.Einval ∷ what.Raise 1 badparam_e ∷ what.Catch 1 1 (at 6)
         ∷ what.Endcatch 1
-        ∷ what.Try 2 (at 4) ∷ call word.Yield [] reply.Epipe ∷ what.Raise 2 pipe_e ∷ what.Catch 2 2 (at 6) ∷ what.Endcatch 2
+        ∷ what.Try 2 (at 4) ∷ call word.Yield [] reply.Epipe ∷ what.Raise 2 pipe_e ∷ what.Catch 2 2 (at 6)
+        ∷ what.Endcatch 2
         ∷ what.Try 3 (at 4) ∷ call word.Yield [] reply.Edeadlk ∷ what.Raise 3 use_error_e ∷ what.Catch 3 3 (at 6)
         ∷ what.Endcatch 3
         ∷ what.Try 4 (at 4) ∷ call word.Yield [] reply.Eof ∷ what.Endtry 4
@@ -83,11 +87,11 @@ pub fn timed_waits()
 pub fn kept_error_numbers()
     ensures { said (lines_of
         (script (item.Interface interface.Status ∷ item.Exception a ∷ []) 0
-            (stmt.Dce dce.Yield
-            ∷ stmt.TryCatch (stmt.Raise a ∷ []) (catch_all (stmt.Say expr.Err ∷ []) ∷ [])
-            ∷ stmt.TryCatch (stmt.Dce dce.Testcancel ∷ []) (catch_all (stmt.Say expr.Err ∷ []) ∷ [])
-            ∷ stmt.TryCatch (stmt.Dce (dce.Detach (two op.Div 1 0)) ∷ []) (catch_all (stmt.Say expr.Err ∷ []) ∷ [])
-            ∷ []))
+        (stmt.Dce dce.Yield
+        ∷ stmt.TryCatch (stmt.Raise a ∷ []) (catch_all (stmt.Say expr.Err ∷ []) ∷ [])
+        ∷ stmt.TryCatch (stmt.Dce dce.Testcancel ∷ []) (catch_all (stmt.Say expr.Err ∷ []) ∷ [])
+        ∷ stmt.TryCatch (stmt.Dce (dce.Detach (two op.Div 1 0)) ∷ []) (catch_all (stmt.Say expr.Err ∷ []) ∷ [])
+        ∷ []))
         (Replies reply.Ebusy ∷ Delivers ∷ Replies reply.Done ∷ []))
         ≡ pos 16 ∷ pos 16 ∷ pos 16 ∷ [] }
 {}
@@ -97,17 +101,17 @@ pub fn kept_error_numbers()
 pub fn stored_values()
     ensures local_variable { said (lines_of
         (script (item.Shared x (pos 0) ∷ []) 2
-            (stmt.Dce (dce.Getprio expr.Me (Local 1)) ∷ stmt.Say (local 1) ∷ stmt.Say (local 2) ∷ stmt.Say (shared x) ∷ []))
+        (stmt.Dce (dce.Getprio expr.Me (Local 1)) ∷ stmt.Say (local 1) ∷ stmt.Say (local 2) ∷ stmt.Say (shared x) ∷ []))
         (Replies (reply.Value (pos 7)) ∷ []))
         ≡ pos 7 ∷ pos 0 ∷ pos 0 ∷ [] }
     ensures shared_variable { said (lines_of
         (script (item.Shared x (pos 0) ∷ []) 2
-            (stmt.Dce (dce.Getprio expr.Me (Shared x)) ∷ stmt.Say (local 1) ∷ stmt.Say (local 2) ∷ stmt.Say (shared x) ∷ []))
+        (stmt.Dce (dce.Getprio expr.Me (Shared x)) ∷ stmt.Say (local 1) ∷ stmt.Say (local 2) ∷ stmt.Say (shared x) ∷ []))
         (Replies (reply.Value (pos 7)) ∷ []))
         ≡ pos 0 ∷ pos 0 ∷ pos 7 ∷ [] }
     ensures error_stores_nothing { said (lines_of
         (script (item.Interface interface.Status ∷ []) 1
-            (stmt.Set (Local 1) (num 4) ∷ stmt.Dce (dce.Getprio expr.Me (Local 1)) ∷ stmt.Say (local 1) ∷ []))
+        (stmt.Set (Local 1) (num 4) ∷ stmt.Dce (dce.Getprio expr.Me (Local 1)) ∷ stmt.Say (local 1) ∷ []))
         (Replies reply.Esrch ∷ []))
         ≡ pos 4 ∷ [] }
     ensures at_the_return { said (lines_of
@@ -116,12 +120,12 @@ pub fn stored_values()
         ≡ negsuc 0 ∷ [] }
     ensures read { said (lines_of
         (script (item.Pipe p 4 ∷ item.Shared x (pos 0) ∷ []) 2
-            (stmt.Dce (dce.Read p (Local 1) (Local 2)) ∷ stmt.Say (local 1) ∷ stmt.Say (local 2) ∷ stmt.Say (shared x) ∷ []))
+        (stmt.Dce (dce.Read p (Local 1) (Local 2)) ∷ stmt.Say (local 1) ∷ stmt.Say (local 2) ∷ stmt.Say (shared x) ∷ []))
         (Replies (reply.Value (pos 7)) ∷ []))
         ≡ pos 7 ∷ pos 1 ∷ pos 0 ∷ [] }
     ensures read_into_both_kinds { said (lines_of
         (script (item.Pipe p 4 ∷ item.Shared x (pos 0) ∷ []) 2
-            (stmt.Dce (dce.Read p (Shared x) (Local 2)) ∷ stmt.Say (local 1) ∷ stmt.Say (local 2) ∷ stmt.Say (shared x) ∷ []))
+        (stmt.Dce (dce.Read p (Shared x) (Local 2)) ∷ stmt.Say (local 1) ∷ stmt.Say (local 2) ∷ stmt.Say (shared x) ∷ []))
         (Replies (reply.Value (pos 7)) ∷ []))
         ≡ pos 0 ∷ pos 1 ∷ pos 7 ∷ [] }
     ensures read_into_one_local { said (lines_of
@@ -129,13 +133,14 @@ pub fn stored_values()
         (Replies (reply.Value (pos 7)) ∷ []))
         ≡ pos 1 ∷ [] }
     ensures read_into_one_shared { said (lines_of
-        (script (item.Pipe p 4 ∷ item.Shared x (pos 0) ∷ []) 0 (stmt.Dce (dce.Read p (Shared x) (Shared x)) ∷ stmt.Say (shared x) ∷ []))
+        (script (item.Pipe p 4 ∷ item.Shared x (pos 0) ∷ []) 0 (stmt.Dce (dce.Read p (Shared x) (Shared x))
+        ∷ stmt.Say (shared x) ∷ []))
         (Replies (reply.Value (pos 7)) ∷ []))
         ≡ pos 1 ∷ [] }
     ensures read_at_the_end { said (lines_of
         (script (item.Pipe p 4 ∷ []) 2
-            (stmt.Set (Local 1) (num 4) ∷ stmt.Set (Local 2) (num 5) ∷ stmt.Dce (dce.Read p (Local 1) (Local 2))
-            ∷ stmt.Say (local 1) ∷ stmt.Say (local 2) ∷ stmt.Say expr.Err ∷ []))
+        (stmt.Set (Local 1) (num 4) ∷ stmt.Set (Local 2) (num 5) ∷ stmt.Dce (dce.Read p (Local 1) (Local 2))
+        ∷ stmt.Say (local 1) ∷ stmt.Say (local 2) ∷ stmt.Say expr.Err ∷ []))
         (Replies reply.Blocks ∷ Returns reply.Eof ∷ []))
         ≡ pos 0 ∷ pos 0 ∷ pos 0 ∷ [] }
 {}
@@ -144,14 +149,16 @@ pub fn stored_values()
 #[tactic(auto, unfolding(crate::specs::Computing::remainder_words))]
 pub fn faults_of_calls()
     ensures first { lines_of
-        (script [] 0 (stmt.Dce (dce.Setprio (expr.Two op.Add greatest (num 1)) (two op.Div 1 0) (Local 0)) ∷ [])) (Replies reply.Done ∷ [])
+        (script [] 0 (stmt.Dce (dce.Setprio (expr.Two op.Add greatest (num 1)) (two op.Div 1 0) (Local 0))
+        ∷ [])) (Replies reply.Done ∷ [])
         ≡ what.Raise 1 intovf_e ∷ what.Bottom 1 (negsuc 1) ∷ what.End (negsuc 1) ∷ [] }
     ensures second { lines_of
         (script [] 0 (stmt.Dce (dce.Setprio (num 1) (two op.Div 1 0) (Local 0)) ∷ [])) (Replies reply.Done ∷ [])
         ≡ what.Raise 1 intdiv_e ∷ what.Bottom 1 (negsuc 1) ∷ what.End (negsuc 1) ∷ [] }
     ensures values { lines_of
         (script (item.Shared x (pos 0) ∷ []) 0
-            (stmt.Set (Shared x) (num 9) ∷ stmt.Dce (dce.Setprio expr.Me (expr.Two op.Add (shared x) (num 1)) (Local 0)) ∷ []))
+        (stmt.Set (Shared x) (num 9) ∷ stmt.Dce (dce.Setprio expr.Me (expr.Two op.Add (shared x) (num 1)) (Local 0))
+        ∷ []))
         (Replies (reply.Value (pos 16)) ∷ [])
         ≡ what.Set (at 4) (pos 9) ∷ call word.Setprio (arg.Num (pos 1) ∷ arg.Num (pos 10) ∷ []) (reply.Value (pos 16))
         ∷ what.End (pos 0) ∷ [] }

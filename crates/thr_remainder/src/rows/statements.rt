@@ -18,7 +18,8 @@ pub fn quiet_statements()
     ensures set { kind_of (stmt.Set (Local 0) (expr.Two op.Add (local 1) expr.Err)) ≡ codes "quiet" }
     ensures if_with_say { kind_of (stmt.If (local 0) (say 1 ∷ []) None) ≡ codes "quiet" }
     ensures while_with_set { kind_of (stmt.While expr.Me (stmt.Set (Shared x) (num 1) ∷ [])) ≡ codes "quiet" }
-    ensures try_with_calls { kind_of (stmt.TryCatch (stmt.Dce dce.Testcancel ∷ []) (catch_all (say 1 ∷ []) ∷ [])) ≡ codes "quiet" }
+    ensures try_with_calls { kind_of (stmt.TryCatch (stmt.Dce dce.Testcancel ∷ []) (catch_all (say 1 ∷ []) ∷ []))
+        ≡ codes "quiet" }
     ensures try_finally { kind_of (stmt.TryFinally (say 1 ∷ []) (say 2 ∷ [])) ≡ codes "quiet" }
     ensures raise { kind_of (stmt.Raise (named 6)) ≡ codes "quiet" }
     ensures reraise { kind_of stmt.Reraise ≡ codes "quiet" }
@@ -60,18 +61,18 @@ pub fn points()
 pub fn told_values()
     ensures shared_ones { lines_of
         (script
-            (item.Shared x (pos 0)
-            ∷ routine r 0 (stmt.Return (expr.Two op.Add (local 0) (shared x)) ∷ [])
-            ∷ [])
-            1
-            (stmt.Set (Shared x) (num 2)
-            ∷ stmt.Set (Local 1) (shared x)
-            ∷ stmt.If (expr.Two op.Equal (shared x) (num 2)) (stmt.Say (local 1) ∷ []) (Some (say 0 ∷ []))
-            ∷ stmt.While (shared x) (stmt.Set (Shared x) (expr.Two op.Sub (shared x) (num 1)) ∷ [])
-            ∷ stmt.Call r (expr.Two op.Add (shared x) (num 4)) (Some 1)
-            ∷ stmt.Say (local 1)
-            ∷ stmt.Exit (expr.Two op.Add (shared x) (num 7))
-            ∷ []))
+        (item.Shared x (pos 0)
+        ∷ routine r 0 (stmt.Return (expr.Two op.Add (local 0) (shared x)) ∷ [])
+        ∷ [])
+        1
+        (stmt.Set (Shared x) (num 2)
+        ∷ stmt.Set (Local 1) (shared x)
+        ∷ stmt.If (expr.Two op.Equal (shared x) (num 2)) (stmt.Say (local 1) ∷ []) (Some (say 0 ∷ []))
+        ∷ stmt.While (shared x) (stmt.Set (Shared x) (expr.Two op.Sub (shared x) (num 1)) ∷ [])
+        ∷ stmt.Call r (expr.Two op.Add (shared x) (num 4)) (Some 1)
+        ∷ stmt.Say (local 1)
+        ∷ stmt.Exit (expr.Two op.Add (shared x) (num 7))
+        ∷ []))
         []
         ≡ what.Set (at 8) (pos 2) ∷ what.Set (at 9) (pos 2) ∷ what.If (at 10) (pos 1) ∷ what.Say (pos 2)
         ∷ what.While (at 15) (pos 2) ∷ what.Set (at 16) (pos 1) ∷ what.While (at 15) (pos 1) ∷ what.Set (at 16) (pos 0)
@@ -79,19 +80,19 @@ pub fn told_values()
         ∷ what.Exit 1 (pos 7) ∷ what.Bottom 1 (pos 7) ∷ what.End (pos 7) ∷ [] }
     ensures quiet_ones { lines_of
         (script (routine r 0 (stmt.Return (expr.Two op.Add (local 0) (num 1)) ∷ []) ∷ []) 1
-            (stmt.Set (Local 1) (num 2)
-            ∷ stmt.While (local 1)
-                (stmt.If (expr.Two op.Equal (local 1) (num 2)) (say 5 ∷ []) (Some (say 6 ∷ []))
-                ∷ stmt.Set (Local 1) (expr.Two op.Sub (local 1) (num 1))
-                ∷ [])
-            ∷ stmt.Call r (num 4) (Some 1)
-            ∷ stmt.Return (local 1)
-            ∷ []))
+        (stmt.Set (Local 1) (num 2)
+        ∷ stmt.While (local 1)
+        (stmt.If (expr.Two op.Equal (local 1) (num 2)) (say 5 ∷ []) (Some (say 6 ∷ []))
+        ∷ stmt.Set (Local 1) (expr.Two op.Sub (local 1) (num 1))
+        ∷ [])
+        ∷ stmt.Call r (num 4) (Some 1)
+        ∷ stmt.Return (local 1)
+        ∷ []))
         []
         ≡ what.Say (pos 5) ∷ what.Say (pos 6) ∷ what.End (pos 5) ∷ [] }
     ensures other_branch { lines_of
         (script (item.Shared x (pos 0) ∷ []) 0
-            (stmt.If (shared x) (say 1 ∷ []) (Some (say 2 ∷ [])) ∷ stmt.If (shared x) (say 3 ∷ []) None ∷ say 4 ∷ [])) []
+        (stmt.If (shared x) (say 1 ∷ []) (Some (say 2 ∷ [])) ∷ stmt.If (shared x) (say 3 ∷ []) None ∷ say 4 ∷ [])) []
         ≡ what.If (at 4) (pos 0) ∷ what.Say (pos 2) ∷ what.If (at 9) (pos 0) ∷ what.Say (pos 4) ∷ what.End (pos 0) ∷ [] }
 {}
 
@@ -102,18 +103,18 @@ pub fn faults()
         ≡ what.Raise 1 intdiv_e ∷ what.Bottom 1 (negsuc 1) ∷ what.End (negsuc 1) ∷ [] }
     ensures shared_set { lines_of
         (script (item.Shared x (pos 0) ∷ []) 0
-            (stmt.Set (Shared x) (num 3)
-            ∷ stmt.TryCatch (stmt.Set (Shared x) (expr.Two op.Div (shared x) (num 0)) ∷ [])
-                (catch (named 8) (stmt.Say (shared x) ∷ []) ∷ [])
-            ∷ []))
+        (stmt.Set (Shared x) (num 3)
+        ∷ stmt.TryCatch (stmt.Set (Shared x) (expr.Two op.Div (shared x) (num 0)) ∷ [])
+        (catch (named 8) (stmt.Say (shared x) ∷ []) ∷ [])
+        ∷ []))
         []
         ≡ what.Set (at 4) (pos 3) ∷ what.Try 1 (at 5) ∷ what.Raise 1 intdiv_e ∷ what.Catch 1 1 (at 7) ∷ what.Say (pos 3)
         ∷ what.Endcatch 1 ∷ what.End (pos 0) ∷ [] }
     ensures quiet_set { lines_of
         (script [] 0
-            (stmt.Set (Local 0) (num 3)
-            ∷ stmt.TryCatch (stmt.Set (Local 0) (two op.Rem 1 0) ∷ []) (catch (named 8) (stmt.Say (local 0) ∷ []) ∷ [])
-            ∷ []))
+        (stmt.Set (Local 0) (num 3)
+        ∷ stmt.TryCatch (stmt.Set (Local 0) (two op.Rem 1 0) ∷ []) (catch (named 8) (stmt.Say (local 0) ∷ []) ∷ [])
+        ∷ []))
         []
         ≡ what.Try 1 (at 4) ∷ what.Raise 1 intdiv_e ∷ what.Catch 1 1 (at 6) ∷ what.Say (pos 3) ∷ what.Endcatch 1
         ∷ what.End (pos 0) ∷ [] }

@@ -34,22 +34,24 @@ pub fn bottoms()
 pub fn dropped_items()
     ensures calls { lines_of
         (script
-            (item.Exception a ∷ routine b 0 (stmt.Raise a ∷ []) ∷ routine c 0 (stmt.Call b (num 0) None ∷ say 1 ∷ []) ∷ [])
-            0
-            (stmt.TryCatch (stmt.Call c (num 0) None ∷ say 2 ∷ []) (catch a (say 3 ∷ []) ∷ []) ∷ [])) []
+        (item.Exception a ∷ routine b 0 (stmt.Raise a ∷ []) ∷ routine c 0 (stmt.Call b (num 0) None ∷ say 1 ∷ []) ∷ [])
+        0
+        (stmt.TryCatch (stmt.Call c (num 0) None ∷ say 2 ∷ []) (catch a (say 3 ∷ []) ∷ []) ∷ [])) []
         ≡ what.Try 1 (at 11) ∷ what.Raise 1 (Address a) ∷ what.Catch 1 1 (at 14) ∷ what.Say (pos 3) ∷ what.Endcatch 1
         ∷ what.End (pos 0) ∷ [] }
     ensures exit_through_finally { lines_of
         (script [] 0
-            (stmt.TryFinally (stmt.TryCatch (stmt.Exit (num 8) ∷ []) (catch_all (say 1 ∷ []) ∷ []) ∷ []) (say 2 ∷ []) ∷ [])) []
-        ≡ what.Try 1 (at 3) ∷ what.Try 2 (at 4) ∷ what.Exit 1 (pos 8) ∷ what.Finally 1 1 ∷ what.Say (pos 2) ∷ what.Endfin 1
+        (stmt.TryFinally (stmt.TryCatch (stmt.Exit (num 8) ∷ []) (catch_all (say 1 ∷ []) ∷ []) ∷ []) (say 2 ∷ [])
+        ∷ [])) []
+        ≡ what.Try 1 (at 3) ∷ what.Try 2 (at 4) ∷ what.Exit 1 (pos 8) ∷ what.Finally 1 1 ∷ what.Say (pos 2)
+        ∷ what.Endfin 1
         ∷ what.Bottom 1 (pos 8) ∷ what.End (pos 8) ∷ [] }
     ensures exit_in_catch_body { lines_of
         (script [] 0
-            (stmt.TryFinally
-                (stmt.TryCatch (stmt.Raise (named 6) ∷ []) (catch_all (stmt.Exit (num 8) ∷ []) ∷ []) ∷ [])
-                (say 2 ∷ [])
-            ∷ [])) []
+        (stmt.TryFinally
+        (stmt.TryCatch (stmt.Raise (named 6) ∷ []) (catch_all (stmt.Exit (num 8) ∷ []) ∷ []) ∷ [])
+        (say 2 ∷ [])
+        ∷ [])) []
         ≡ what.Try 1 (at 3) ∷ what.Try 2 (at 4) ∷ what.Raise 1 pipe_e ∷ what.Catch 2 1 (at 6) ∷ what.Exit 2 (pos 8)
         ∷ what.Finally 1 2 ∷ what.Say (pos 2) ∷ what.Endfin 1 ∷ what.Bottom 2 (pos 8) ∷ what.End (pos 8) ∷ [] }
 {}
@@ -63,21 +65,22 @@ pub fn replaced_unwindings()
         ∷ what.End (negsuc 1) ∷ [] }
     ensures caught_inside { lines_of
         (script (item.Exception a ∷ item.Exception b ∷ []) 0
-            (stmt.TryFinally (stmt.Raise a ∷ []) (stmt.TryCatch (stmt.Raise b ∷ []) (catch b [] ∷ []) ∷ []) ∷ [])) []
+        (stmt.TryFinally (stmt.Raise a ∷ []) (stmt.TryCatch (stmt.Raise b ∷ []) (catch b [] ∷ []) ∷ []) ∷ [])) []
         ≡ what.Try 1 (at 5) ∷ what.Raise 1 (Address a) ∷ what.Finally 1 1 ∷ what.Try 2 (at 8) ∷ what.Raise 2 (Address b)
         ∷ what.Catch 2 2 (at 10) ∷ what.Endcatch 2 ∷ what.Endfin 1 ∷ what.Bottom 1 (negsuc 1) ∷ what.End (negsuc 1) ∷ [] }
     ensures twice { lines_of
         (script (item.Exception a ∷ item.Exception b ∷ item.Exception c ∷ []) 0
-            (stmt.TryCatch
-                (stmt.TryFinally (stmt.TryFinally (stmt.Raise a ∷ []) (stmt.Raise b ∷ []) ∷ []) (stmt.Raise c ∷ []) ∷ [])
-                (catch b (say 1 ∷ []) ∷ catch c (say 2 ∷ []) ∷ [])
-            ∷ [])) []
+        (stmt.TryCatch
+        (stmt.TryFinally (stmt.TryFinally (stmt.Raise a ∷ []) (stmt.Raise b ∷ []) ∷ []) (stmt.Raise c ∷ []) ∷ [])
+        (catch b (say 1 ∷ []) ∷ catch c (say 2 ∷ []) ∷ [])
+        ∷ [])) []
         ≡ what.Try 1 (at 6) ∷ what.Try 2 (at 7) ∷ what.Try 3 (at 8) ∷ what.Raise 1 (Address a) ∷ what.Finally 3 1
-        ∷ what.Raise 2 (Address b) ∷ what.Finally 2 2 ∷ what.Raise 3 (Address c) ∷ what.Catch 1 3 (at 18) ∷ what.Say (pos 2)
+        ∷ what.Raise 2 (Address b) ∷ what.Finally 2 2 ∷ what.Raise 3 (Address c) ∷ what.Catch 1 3 (at 18)
+        ∷ what.Say (pos 2)
         ∷ what.Endcatch 1 ∷ what.End (pos 0) ∷ [] }
     ensures in_nested_finally { lines_of
         (script (item.Exception a ∷ item.Exception b ∷ []) 0
-            (stmt.TryFinally (stmt.Raise a ∷ []) (stmt.TryFinally (stmt.Raise b ∷ []) (say 1 ∷ []) ∷ say 2 ∷ []) ∷ [])) []
+        (stmt.TryFinally (stmt.Raise a ∷ []) (stmt.TryFinally (stmt.Raise b ∷ []) (say 1 ∷ []) ∷ say 2 ∷ []) ∷ [])) []
         ≡ what.Try 1 (at 5) ∷ what.Raise 1 (Address a) ∷ what.Finally 1 1 ∷ what.Try 2 (at 8) ∷ what.Raise 2 (Address b)
         ∷ what.Finally 2 2 ∷ what.Say (pos 1) ∷ what.Endfin 2 ∷ what.Bottom 2 (negsuc 1) ∷ what.End (negsuc 1) ∷ [] }
     ensures after_normal_end { lines_of
@@ -91,18 +94,20 @@ pub fn replaced_unwindings()
 pub fn once_and_destructors()
     ensures undone_and_caught { lines_of
         (script (item.Exception a ∷ item.Once o ∷ routine r 0 (stmt.Raise a ∷ []) ∷ []) 0
-            (stmt.TryCatch (stmt.Dce (dce.Once o r) ∷ []) (catch a (say 1 ∷ []) ∷ []) ∷ [])) (Runs o r ∷ [])
+        (stmt.TryCatch (stmt.Dce (dce.Once o r) ∷ []) (catch a (say 1 ∷ []) ∷ []) ∷ [])) (Runs o r ∷ [])
         ≡ what.Try 1 (at 8) ∷ call word.Once (arg.Name o ∷ arg.Name r ∷ []) reply.Done ∷ what.Once 2 o
         ∷ what.Raise 1 (Address a) ∷ what.Undone 2 1 ∷ what.Catch 1 1 (at 10) ∷ what.Say (pos 1) ∷ what.Endcatch 1
         ∷ what.End (pos 0) ∷ [] }
     ensures undone_by_exit { lines_of
         (script (item.Once o ∷ routine r 0 (stmt.TryFinally (stmt.Exit (num 4) ∷ []) [] ∷ []) ∷ []) 0
-            (stmt.Dce (dce.Once o r) ∷ [])) (Runs o r ∷ [])
+        (stmt.Dce (dce.Once o r) ∷ [])) (Runs o r ∷ [])
         ≡ call word.Once (arg.Name o ∷ arg.Name r ∷ []) reply.Done ∷ what.Once 1 o ∷ what.Try 2 (at 4)
-        ∷ what.Exit 1 (pos 4) ∷ what.Finally 2 1 ∷ what.Endfin 2 ∷ what.Undone 1 1 ∷ what.Bottom 1 (pos 4) ∷ what.End (pos 4)
+        ∷ what.Exit 1 (pos 4) ∷ what.Finally 2 1 ∷ what.Endfin 2 ∷ what.Undone 1 1 ∷ what.Bottom 1 (pos 4)
+        ∷ what.End (pos 4)
         ∷ [] }
     ensures exit_lost { lines_of
-        (script (item.Key k ∷ routine r 0 (stmt.Exit (num 4) ∷ []) ∷ []) 0 (stmt.Return (num 9) ∷ [])) (Destroys k r (pos 2) ∷ [])
+        (script (item.Key k ∷ routine r 0 (stmt.Exit (num 4) ∷ []) ∷ []) 0 (stmt.Return (num 9)
+        ∷ [])) (Destroys k r (pos 2) ∷ [])
         ≡ what.Destroy 1 k (pos 2) ∷ what.Exit 1 (pos 4) ∷ what.Lost 1 1 ∷ what.End (pos 9) ∷ [] }
     ensures lost_after_the_bottom { lines_of
         (script (item.Exception a ∷ item.Key k ∷ routine r 0 (stmt.Return (num 4) ∷ []) ∷ []) 0 (stmt.Raise a ∷ []))
@@ -111,10 +116,11 @@ pub fn once_and_destructors()
         ∷ what.End (negsuc 1) ∷ [] }
     ensures caught_in_a_destructor { lines_of
         (script
-            (item.Exception a ∷ item.Key k
-            ∷ routine r 0 (stmt.TryCatch (stmt.Raise a ∷ []) (catch_all [] ∷ []) ∷ [])
-            ∷ [])
-            0 []) (Destroys k r (pos 2) ∷ [])
-        ≡ what.Destroy 1 k (pos 2) ∷ what.Try 2 (at 5) ∷ what.Raise 1 (Address a) ∷ what.Catch 2 1 (at 7) ∷ what.Endcatch 2
+        (item.Exception a ∷ item.Key k
+        ∷ routine r 0 (stmt.TryCatch (stmt.Raise a ∷ []) (catch_all [] ∷ []) ∷ [])
+        ∷ [])
+        0 []) (Destroys k r (pos 2) ∷ [])
+        ≡ what.Destroy 1 k (pos 2) ∷ what.Try 2 (at 5) ∷ what.Raise 1 (Address a) ∷ what.Catch 2 1 (at 7)
+        ∷ what.Endcatch 2
         ∷ what.Enddes 1 ∷ what.End (pos 0) ∷ [] }
 {}

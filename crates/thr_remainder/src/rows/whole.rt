@@ -25,14 +25,14 @@ ghost use Rattle.thr_remainder.specs.Starts.{at};
 pub fn match_by_number()
     ensures { lines_of
         (script
-            (item.Status a (pos 5) ∷ item.Status b (pos 5)
-            ∷ routine r 0 (stmt.TryFinally (stmt.Raise a ∷ []) (say 1 ∷ []) ∷ [])
-            ∷ [])
-            0
-            (stmt.TryCatch
-                (stmt.TryFinally (stmt.Call r (num 0) None ∷ []) (say 2 ∷ []) ∷ [])
-                (catch b (stmt.Say (expr.GetStatus This) ∷ []) ∷ [])
-            ∷ []))
+        (item.Status a (pos 5) ∷ item.Status b (pos 5)
+        ∷ routine r 0 (stmt.TryFinally (stmt.Raise a ∷ []) (say 1 ∷ []) ∷ [])
+        ∷ [])
+        0
+        (stmt.TryCatch
+        (stmt.TryFinally (stmt.Call r (num 0) None ∷ []) (say 2 ∷ []) ∷ [])
+        (catch b (stmt.Say (expr.GetStatus This) ∷ []) ∷ [])
+        ∷ []))
         []
         ≡ what.Try 1 (at 12) ∷ what.Try 2 (at 13) ∷ what.Try 3 (at 5) ∷ what.Raise 1 (Status (pos 5))
         ∷ what.Finally 3 1 ∷ what.Say (pos 1) ∷ what.Endfin 3
@@ -45,13 +45,13 @@ pub fn match_by_number()
 pub fn cancel_raised_again()
     ensures { lines_of
         (script [] 0
-            (stmt.TryCatch
-                (stmt.TryCatch
-                    (stmt.Dce (dce.Cancel expr.Me) ∷ stmt.Dce dce.Testcancel ∷ [])
-                    (catch_all (stmt.Reraise ∷ []) ∷ [])
-                ∷ [])
-                (catch (named 0) (say 3 ∷ []) ∷ [])
-            ∷ []))
+        (stmt.TryCatch
+        (stmt.TryCatch
+        (stmt.Dce (dce.Cancel expr.Me) ∷ stmt.Dce dce.Testcancel ∷ [])
+        (catch_all (stmt.Reraise ∷ []) ∷ [])
+        ∷ [])
+        (catch (named 0) (say 3 ∷ []) ∷ [])
+        ∷ []))
         (Replies (reply.Effect effect.Pending) ∷ Delivers ∷ [])
         ≡ what.Try 1 (at 3) ∷ what.Try 2 (at 4) ∷ call word.Cancel (arg.Num (pos 1) ∷ []) (reply.Effect effect.Pending)
         ∷ what.Deliver 1 (at 6) ∷ what.Catch 2 1 (at 7) ∷ what.Reraise 2 cancel_e ∷ what.Catch 1 2 (at 10)
@@ -63,10 +63,10 @@ pub fn cancel_raised_again()
 pub fn finally_that_raises()
     ensures { lines_of
         (script (item.Exception a ∷ item.Exception b ∷ []) 0
-            (stmt.TryCatch
-                (stmt.TryFinally (stmt.Raise a ∷ []) (stmt.Raise b ∷ []) ∷ [])
-                (catch b (say 1 ∷ []) ∷ [])
-            ∷ []))
+        (stmt.TryCatch
+        (stmt.TryFinally (stmt.Raise a ∷ []) (stmt.Raise b ∷ []) ∷ [])
+        (catch b (say 1 ∷ []) ∷ [])
+        ∷ []))
         []
         ≡ what.Try 1 (at 5) ∷ what.Try 2 (at 6) ∷ what.Raise 1 (Address a) ∷ what.Finally 2 1 ∷ what.Raise 2 (Address b)
         ∷ what.Catch 1 2 (at 11) ∷ what.Say (pos 1) ∷ what.Endcatch 1 ∷ what.End (pos 0) ∷ [] }
@@ -77,28 +77,29 @@ pub fn finally_that_raises()
 pub fn cancelled_waits()
     ensures out_of_the_wait { lines_at
         (script
-            (item.Mutex m ∷ item.Cond c ∷ item.Shared x (pos 0)
-            ∷ routine s 0
-                (stmt.Dce (dce.MutexLock m)
-                ∷ stmt.TryFinally (stmt.Dce (dce.CondWait c m) ∷ []) (stmt.Dce (dce.MutexUnlock m) ∷ [])
-                ∷ [])
-            ∷ [])
-            0 [])
+        (item.Mutex m ∷ item.Cond c ∷ item.Shared x (pos 0)
+        ∷ routine s 0
+        (stmt.Dce (dce.MutexLock m)
+        ∷ stmt.TryFinally (stmt.Dce (dce.CondWait c m) ∷ []) (stmt.Dce (dce.MutexUnlock m) ∷ [])
+        ∷ [])
+        ∷ [])
+        0 [])
         s (pos 0)
         (Replies reply.Done ∷ Replies reply.Blocks ∷ Delivers ∷ Replies reply.Done ∷ [])
         ≡ call word.MutexLock (arg.Name m ∷ []) reply.Done ∷ what.Try 1 (at 7)
         ∷ call word.CondWait (arg.Name c ∷ arg.Name m ∷ []) reply.Blocks ∷ what.Deliver 1 (at 8) ∷ what.Finally 1 1
-        ∷ call word.MutexUnlock (arg.Name m ∷ []) reply.Done ∷ what.Endfin 1 ∷ what.Bottom 1 (negsuc 0) ∷ what.End (negsuc 0)
+        ∷ call word.MutexUnlock (arg.Name m ∷ []) reply.Done ∷ what.Endfin 1 ∷ what.Bottom 1 (negsuc 0)
+        ∷ what.End (negsuc 0)
         ∷ [] }
     ensures at_the_next_point { lines_at
         (script
-            (item.Mutex m ∷ item.Cond c ∷ item.Shared x (pos 0)
-            ∷ routine s 0
-                (stmt.Dce (dce.MutexLock m)
-                ∷ stmt.TryFinally (stmt.Dce (dce.CondWait c m) ∷ stmt.Dce dce.Testcancel ∷ []) (stmt.Dce (dce.MutexUnlock m) ∷ [])
-                ∷ [])
-            ∷ [])
-            0 [])
+        (item.Mutex m ∷ item.Cond c ∷ item.Shared x (pos 0)
+        ∷ routine s 0
+        (stmt.Dce (dce.MutexLock m)
+        ∷ stmt.TryFinally (stmt.Dce (dce.CondWait c m) ∷ stmt.Dce dce.Testcancel ∷ []) (stmt.Dce (dce.MutexUnlock m) ∷ [])
+        ∷ [])
+        ∷ [])
+        0 [])
         s (pos 0)
         (Replies reply.Done ∷ Replies reply.Blocks ∷ Returns reply.Done ∷ Delivers ∷ Replies reply.Done ∷ [])
         ≡ call word.MutexLock (arg.Name m ∷ []) reply.Done ∷ what.Try 1 (at 7)
@@ -112,32 +113,32 @@ pub fn cancelled_waits()
 pub fn merged_cancels()
     ensures target { lines_at
         (script
-            (routine s 0
-                (stmt.Dce dce.Yield
-                ∷ stmt.TryCatch (stmt.Dce dce.Testcancel ∷ []) (catch (named 0) (stmt.Dce dce.Testcancel ∷ []) ∷ [])
-                ∷ [])
-            ∷ [])
-            0 [])
+        (routine s 0
+        (stmt.Dce dce.Yield
+        ∷ stmt.TryCatch (stmt.Dce dce.Testcancel ∷ []) (catch (named 0) (stmt.Dce dce.Testcancel ∷ []) ∷ [])
+        ∷ [])
+        ∷ [])
+        0 [])
         s (pos 0)
         (Replies reply.Done ∷ Delivers ∷ Replies reply.Done ∷ [])
         ≡ call word.Yield [] reply.Done ∷ what.Try 1 (at 4) ∷ what.Deliver 1 (at 5) ∷ what.Catch 1 1 (at 6)
         ∷ call word.Testcancel [] reply.Done ∷ what.Endcatch 1 ∷ what.End (pos 0) ∷ [] }
     ensures canceller { lines_of
         (script
-            (routine s 0
-                (stmt.Dce dce.Yield
-                ∷ stmt.TryCatch (stmt.Dce dce.Testcancel ∷ []) (catch (named 0) (stmt.Dce dce.Testcancel ∷ []) ∷ [])
-                ∷ [])
-            ∷ [])
-            2
-            (stmt.Dce (dce.Create (Local 1) None s (num 0))
-            ∷ stmt.Dce (dce.Cancel (local 1))
-            ∷ stmt.Dce (dce.Cancel (local 1))
-            ∷ stmt.Dce (dce.Join (local 1) (Local 2))
-            ∷ stmt.Dce (dce.Cancel (local 1))
-            ∷ stmt.Dce (dce.Detach (local 1))
-            ∷ stmt.TryCatch (stmt.Dce (dce.Cancel (local 1)) ∷ []) (catch (named 3) (stmt.Say (local 2) ∷ []) ∷ [])
-            ∷ []))
+        (routine s 0
+        (stmt.Dce dce.Yield
+        ∷ stmt.TryCatch (stmt.Dce dce.Testcancel ∷ []) (catch (named 0) (stmt.Dce dce.Testcancel ∷ []) ∷ [])
+        ∷ [])
+        ∷ [])
+        2
+        (stmt.Dce (dce.Create (Local 1) None s (num 0))
+        ∷ stmt.Dce (dce.Cancel (local 1))
+        ∷ stmt.Dce (dce.Cancel (local 1))
+        ∷ stmt.Dce (dce.Join (local 1) (Local 2))
+        ∷ stmt.Dce (dce.Cancel (local 1))
+        ∷ stmt.Dce (dce.Detach (local 1))
+        ∷ stmt.TryCatch (stmt.Dce (dce.Cancel (local 1)) ∷ []) (catch (named 3) (stmt.Say (local 2) ∷ []) ∷ [])
+        ∷ []))
         (Replies (reply.Value (pos 2)) ∷ Replies (reply.Effect effect.Pending) ∷ Replies (reply.Effect effect.Merged)
         ∷ Replies reply.Blocks ∷ Returns (reply.Value (pos 0)) ∷ Replies (reply.Effect effect.Ended) ∷ Replies reply.Done
         ∷ Replies reply.Esrch ∷ [])
@@ -160,7 +161,8 @@ pub fn interfaces()
         ≡ call word.MutexUnlock (arg.Name m ∷ []) reply.Eperm ∷ what.Raise 1 use_error_e ∷ what.Bottom 1 (negsuc 1)
         ∷ what.End (negsuc 1) ∷ [] }
     ensures status { lines_of
-        (script (item.Interface interface.Status ∷ item.Mutex m ∷ []) 0 (stmt.Dce (dce.MutexUnlock m) ∷ stmt.Say expr.Err ∷ []))
+        (script (item.Interface interface.Status ∷ item.Mutex m ∷ []) 0 (stmt.Dce (dce.MutexUnlock m)
+        ∷ stmt.Say expr.Err ∷ []))
         (Replies reply.Eperm ∷ [])
         ≡ call word.MutexUnlock (arg.Name m ∷ []) reply.Eperm ∷ what.Say (pos 1) ∷ what.End (pos 0) ∷ [] }
 {}
@@ -170,7 +172,7 @@ pub fn interfaces()
 pub fn once_routines()
     ensures unwound { lines_at
         (script (item.Once o ∷ routine r 0 (stmt.Dce (dce.DelayNp (num 10)) ∷ []) ∷ []) 0
-            (stmt.Dce (dce.Once o r) ∷ stmt.Say (local 0) ∷ []))
+        (stmt.Dce (dce.Once o r) ∷ stmt.Say (local 0) ∷ []))
         main (pos 1)
         (Runs o r ∷ Replies reply.Blocks ∷ Delivers ∷ [])
         ≡ call word.Once (arg.Name o ∷ arg.Name r ∷ []) reply.Done ∷ what.Once 1 o
@@ -178,7 +180,7 @@ pub fn once_routines()
         ∷ what.Bottom 1 (negsuc 0) ∷ what.End (negsuc 0) ∷ [] }
     ensures done { lines_at
         (script (item.Once o ∷ routine r 0 (stmt.Dce (dce.DelayNp (num 10)) ∷ []) ∷ []) 0
-            (stmt.Dce (dce.Once o r) ∷ stmt.Say (local 0) ∷ []))
+        (stmt.Dce (dce.Once o r) ∷ stmt.Say (local 0) ∷ []))
         main (pos 3)
         (Replies reply.Blocks ∷ ReturnsAndRuns o r ∷ Replies reply.Blocks ∷ Returns reply.Done ∷ [])
         ≡ call word.Once (arg.Name o ∷ arg.Name r ∷ []) reply.Blocks ∷ what.Ret reply.Done ∷ what.Once 1 o
@@ -191,17 +193,17 @@ pub fn once_routines()
 pub fn destructors()
     ensures { lines_of
         (script
-            (item.Exception e ∷ item.Key k ∷ item.Key j
-            ∷ routine r 0 (stmt.Raise e ∷ [])
-            ∷ routine s 0 (stmt.Say (local 0) ∷ [])
-            ∷ [])
-            0
-            (stmt.Dce (dce.Keycreate k (Some r))
-            ∷ stmt.Dce (dce.Keycreate j (Some s))
-            ∷ stmt.Dce (dce.Setspecific k (num 4))
-            ∷ stmt.Dce (dce.Setspecific j (num 5))
-            ∷ stmt.Return (num 9)
-            ∷ []))
+        (item.Exception e ∷ item.Key k ∷ item.Key j
+        ∷ routine r 0 (stmt.Raise e ∷ [])
+        ∷ routine s 0 (stmt.Say (local 0) ∷ [])
+        ∷ [])
+        0
+        (stmt.Dce (dce.Keycreate k (Some r))
+        ∷ stmt.Dce (dce.Keycreate j (Some s))
+        ∷ stmt.Dce (dce.Setspecific k (num 4))
+        ∷ stmt.Dce (dce.Setspecific j (num 5))
+        ∷ stmt.Return (num 9)
+        ∷ []))
         (Replies reply.Done ∷ Replies reply.Done ∷ Replies reply.Done ∷ Replies reply.Done
         ∷ Destroys k r (pos 4) ∷ Destroys j s (pos 5) ∷ [])
         ≡ call word.Keycreate (arg.Name k ∷ arg.Name r ∷ []) reply.Done
