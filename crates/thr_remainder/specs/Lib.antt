@@ -1,0 +1,16 @@
+pub mod Places
+pub mod Acts
+pub mod Declarations
+pub mod Remainders
+pub mod Expressions
+pub mod Starts
+pub mod Standing
+pub mod Scopes
+pub mod Calls
+pub mod Steps
+pub mod Outward
+pub mod Replies
+pub mod Next
+pub mod Alone
+pub mod Samples
+pub mod Computing
