@@ -1,0 +1,16 @@
+pub mod Tables
+pub mod Replies
+pub mod Rows
+pub mod Dispatch
+pub mod Threads
+pub mod Scheduling
+pub mod Cancels
+pub mod Mutexes
+pub mod Times
+pub mod Conditions
+pub mod Waking
+pub mod Keys
+pub mod OnceBlocks
+pub mod Pipes
+pub mod CancelledWaits
+pub mod Computing

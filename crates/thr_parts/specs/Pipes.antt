@@ -1,0 +1,202 @@
+-- Pipes (docs/machine.md, "Pipes").
+use Rattle.std.specs.Prelude.{ℕ, ◌==◌, nat_lt, Bool, true, false, not, ◌&&◌, ◌||◌, if◌then◌else◌, is_some, is_none, ℤ, List, [], ◌∷◌, ◌++◌, length, Option, Some, None}
+use Rattle.std.specs.List.{filter}
+use Rattle.std.specs.Option.{option_map, option_and_then}
+use Rattle.thr_values.specs.declared.number.Tid.{Tid}
+use Rattle.thr_values.specs.declared.number.NameId.{NameId}
+use Rattle.thr_values.specs.declared.reply.Reply.{Reply}
+use Rattle.thr_values.specs.declared.reply.Reply.TheVariants as reply
+use Rattle.thr_syntax.specs.declared.tree.Item.{Item}
+use Rattle.thr_syntax.specs.declared.tree.Item.TheVariants as item
+use Rattle.thr_parts.specs.declared.pipe.Writing.{Writing}
+use Rattle.thr_parts.specs.declared.row.RowId.{RowId}
+use Rattle.thr_parts.specs.declared.row.RowId.TheVariants as row
+use Rattle.thr_parts.specs.Tables.{Table, none, get, at, put, put_if, cut, cut_if, keep_if}
+use Rattle.thr_parts.specs.Replies.{is_done, is_blocks, is_value}
+use Rattle.thr_parts.specs.Rows.{Rows, best, best_first, row_of, block_if, take_out_if, make_all_ready}
+
+-- A pipe: how many items it takes, whether it is open, and its items, the front first.
+pub record Pipe : Type 0 where
+  pub capacity : ℕ
+  pub is_open : Bool
+  pub items : List ℤ
+
+-- The declared pipes, and of each thread that waits as a writer its pipe and its item.
+pub record Pipes : Type 0 where
+  pub pipes : Table Pipe
+  pub writing : Table Writing
+
+-- A pipe as it is declared: open and empty.
+abbrev pub new_pipe : ℕ → Pipe
+new_pipe capacity = record { capacity = capacity; is_open = true; items = [] }
+
+unfoldable pub declared_pipes : List Item → Table Pipe
+declared_pipes [] = none
+declared_pipes (item.Pipe p capacity ∷ items) = put (declared_pipes items) p.0 (new_pipe capacity)
+declared_pipes (_ ∷ items) = declared_pipes items
+
+-- The pipes at the opening (docs/machine.md, "The opening").
+abbrev pub first_pipes : List Item → Pipes
+first_pipes items = record { pipes = declared_pipes items; writing = none }
+
+-- What is no pipe is as one that is closed and empty.
+abbrev pub no_pipe : Pipe
+no_pipe = record { capacity = 0; is_open = false; items = [] }
+
+abbrev pub pipe_at : Pipes → NameId → Pipe
+pipe_at ps p = at ps.pipes p.0 no_pipe
+
+abbrev pub with_items : List ℤ → Pipe → Pipe
+with_items items x = record { capacity = x.capacity; is_open = x.is_open; items = items }
+
+abbrev pub writing_without : Table Writing → Option Tid → Table Writing
+writing_without writing None = writing
+writing_without writing (Some t) = cut writing t.0
+
+-- ---- read
+
+-- A reply, and pipes and rows after it, and the writer whose item entered, taken out of its row.
+pub record ReadReply : Type 0 where
+  pub reply : Reply
+  pub pipes : Pipes
+  pub rows : Rows
+  pub relieved : Option Tid
+
+abbrev pub empty_reply : Bool → Reply
+empty_reply true = reply.Blocks
+empty_reply false = reply.Eof
+
+abbrev pub read_reply : Pipe → Reply
+read_reply x = front_reply x.items
+  where
+    front_reply : List ℤ → Reply
+    front_reply [] = empty_reply x.is_open
+    front_reply (v ∷ vs) = reply.Value v
+
+abbrev pub behind : List ℤ → List ℤ
+behind [] = []
+behind (v ∷ vs) = vs
+
+abbrev pub item_of : Option Writing → List ℤ
+item_of None = []
+item_of (Some w) = w.item ∷ []
+
+-- The item with which the thread that is there waits.
+abbrev pub item_from : Pipes → Option Tid → List ℤ
+item_from ps t = item_of (option_and_then (λ w. get ps.writing w.0) t)
+
+-- A thread takes the front item; then the item of the best waiting writer enters.
+abbrev pub read : Pipes → Rows → NameId → Tid → ℕ → ReadReply
+read ps rs p t rank =
+    let x : Pipe = pipe_at ps p in
+    let said : Reply = read_reply x in
+    let writer : Option Tid = keep_if (is_value said) (best rs (row.Writer p)) in record {
+      reply = said;
+      pipes = record {
+        pipes = put_if ps.pipes p.0 (keep_if (is_value said) (Some (with_items (behind x.items ++ item_from ps writer) x)));
+        writing = writing_without ps.writing writer;
+      };
+      rows = take_out_if (block_if (is_blocks said) rs (row.Reader p) t rank) writer;
+      relieved = writer;
+    }
+
+-- ---- write
+
+-- A reply, and pipes and rows after it, and the reader that was given the item, taken out of its row.
+pub record WriteReply : Type 0 where
+  pub reply : Reply
+  pub pipes : Pipes
+  pub rows : Rows
+  pub reader : Option Tid
+
+abbrev pub has_room : Pipe → Bool
+has_room x = nat_lt (length x.items) x.capacity
+
+abbrev pub write_reply : Pipe → Option Tid → Reply
+write_reply x reader =
+    if not x.is_open then reply.Epipe
+    else (if is_some reader || has_room x then reply.Done else reply.Blocks)
+
+-- A thread hands an item to the best waiting reader, or else puts it into the pipe where that has room.
+abbrev pub write : Pipes → Rows → NameId → ℤ → Tid → ℕ → WriteReply
+write ps rs p v t rank =
+    let x : Pipe = pipe_at ps p in
+    let reader : Option Tid = keep_if x.is_open (best rs (row.Reader p)) in
+    let said : Reply = write_reply x reader in record {
+      reply = said;
+      pipes = record {
+        pipes = put_if ps.pipes p.0 (keep_if (is_done said && is_none reader) (Some (with_items (x.items ++ v ∷ []) x)));
+        writing = put_if ps.writing t.0 (keep_if (is_blocks said) (Some (record { pipe = p; item = v })));
+      };
+      rows = block_if (is_blocks said) (take_out_if rs reader) (row.Writer p) t rank;
+      reader = reader;
+    }
+
+-- ---- close
+
+pub record PipesReply : Type 0 where
+  pub reply : Reply
+  pub pipes : Pipes
+
+abbrev pub close_reply : Bool → Reply
+close_reply true = reply.Done
+close_reply false = reply.Einval
+
+abbrev pub as_closed : Pipe → Pipe
+as_closed x = record { capacity = x.capacity; is_open = false; items = x.items }
+
+-- The waiting writers of other pipes.
+unfoldable pub writing_elsewhere : Table Writing → NameId → Table Writing
+writing_elsewhere writing p = filter (λ e. not (e.1.pipe.0 == p.0)) writing
+
+-- The pipe takes no more items. It keeps those in it, and those of waiting writers are dropped.
+abbrev pub close : Pipes → NameId → PipesReply
+close ps p =
+    let opened : Bool = (pipe_at ps p).is_open in record {
+      reply = close_reply opened;
+      pipes = record {
+        pipes = put_if ps.pipes p.0 (keep_if opened (Some (as_closed (pipe_at ps p))));
+        writing = if opened then writing_elsewhere ps.writing p else ps.writing;
+      };
+    }
+
+-- The same with all waiters of the pipe made ready, readers first and of both the best first.
+pub record Closed : Type 0 where
+  pub reply : Reply
+  pub pipes : Pipes
+  pub rows : Rows
+  pub readers : List Tid
+  pub writers : List Tid
+
+abbrev pub close_out : (Tid → ℕ) → Pipes → Rows → NameId → Closed
+close_out rank ps rs p =
+    let opened : Bool = (pipe_at ps p).is_open in
+    let readers : List Tid = if opened then best_first rs (row.Reader p) else [] in
+    let writers : List Tid = if opened then best_first rs (row.Writer p) else [] in record {
+      reply = (close ps p).reply;
+      pipes = (close ps p).pipes;
+      rows = make_all_ready rank rs (readers ++ writers);
+      readers = readers;
+      writers = writers;
+    }
+
+-- ---- a waiter that is taken out by a cancel
+
+pub record LeftPipe : Type 0 where
+  pub pipes : Pipes
+  pub rows : Rows
+  pub stood : Bool
+
+abbrev pub is_pipe_row : Option RowId → Bool
+is_pipe_row (Some (row.Reader p)) = true
+is_pipe_row (Some (row.Writer p)) = true
+is_pipe_row _ = false
+
+-- The thread leaves its wait as a reader or a writer, whose item is dropped; where it has none nothing changes.
+abbrev pub pull_out : Pipes → Rows → Tid → LeftPipe
+pull_out ps rs t =
+    let who : Option Tid = keep_if (is_pipe_row (row_of rs t)) (Some t) in record {
+      pipes = record { pipes = ps.pipes; writing = writing_without ps.writing who };
+      rows = take_out_if rs who;
+      stood = is_some who;
+    }

@@ -1,0 +1,201 @@
+-- Threads in rows and on processors, and the best thread of a row (docs/machine.md, "Rows").
+use Rattle.std.specs.Prelude.{ℕ, ◌+◌, Bool, true, false, ◌&&◌, ◌||◌, ◌==◌, nat_lt, if◌then◌else◌, is_some, is_none, List, [], ◌∷◌, map, Option, Some, None}
+use Rattle.std.specs.List.{filter}
+use Rattle.std.specs.Option.{option_map}
+use Rattle.thr_values.specs.declared.number.Tid.{Tid}
+use Rattle.thr_parts.specs.declared.row.RowId.{RowId}
+use Rattle.thr_parts.specs.declared.row.RowId.TheVariants as row
+use Rattle.thr_parts.specs.declared.row.Place.{Place}
+use Rattle.thr_parts.specs.declared.row.Place.TheVariants.{Runs, Stands}
+use Rattle.thr_parts.specs.declared.row.Seat.{Seat}
+use Rattle.thr_parts.specs.Tables.{Table, none, get, put, put_if, cut_if}
+
+-- The threads that stand in a row or run, by their numbers, and the next arrival number (docs/machine.md, "Rows").
+pub record Rows : Type 0 where
+  pub seats : Table Seat
+  pub next_arrival : ℕ
+
+abbrev pub no_rows : Rows
+no_rows = record { seats = none; next_arrival = 0 }
+
+abbrev pub thread : ℕ → Tid
+thread n = record { 0 = n }
+
+abbrev pub seat_of : Rows → Tid → Option Seat
+seat_of rs t = get rs.seats t.0
+
+-- ---- rows
+
+abbrev pub is_same_row : RowId → RowId → Bool
+is_same_row row.Ready row.Ready = true
+is_same_row (row.Mutex a) (row.Mutex b) = a.0 == b.0
+is_same_row row.Global row.Global = true
+is_same_row (row.Cond a) (row.Cond b) = a.0 == b.0
+is_same_row (row.Join a) (row.Join b) = a.0 == b.0
+is_same_row (row.Once a) (row.Once b) = a.0 == b.0
+is_same_row (row.Reader a) (row.Reader b) = a.0 == b.0
+is_same_row (row.Writer a) (row.Writer b) = a.0 == b.0
+is_same_row row.Time row.Time = true
+is_same_row _ _ = false
+
+abbrev pub place_in : RowId → Place → Bool
+place_in r (Runs p slice) = false
+place_in r (Stands s arrival) = is_same_row r s
+
+abbrev pub row_in : Place → Option RowId
+row_in (Runs p slice) = None
+row_in (Stands r arrival) = Some r
+
+abbrev pub row_at : Option Seat → Option RowId
+row_at None = None
+row_at (Some s) = row_in s.place
+
+-- The row in which a thread stands, unless it runs or stands nowhere.
+abbrev pub row_of : Rows → Tid → Option RowId
+row_of rs t = row_at (seat_of rs t)
+
+abbrev pub is_in_row : Option Seat → Bool
+is_in_row s = is_some (row_at s)
+
+-- ---- the best of several threads (docs/machine.md, "Ranks and arrivals")
+
+abbrev pub arrival_in : Place → ℕ
+arrival_in (Runs p slice) = 0
+arrival_in (Stands r arrival) = arrival
+
+-- The one has greater rank, or equal rank and lesser arrival.
+abbrev pub is_before : Seat → Seat → Bool
+is_before a b = nat_lt b.rank a.rank || ((a.rank == b.rank) && nat_lt (arrival_in a.place) (arrival_in b.place))
+
+abbrev pub is_seat_before : Option Seat → Option Seat → Bool
+is_seat_before (Some a) (Some b) = is_before a b
+is_seat_before _ _ = false
+
+-- Of two threads that stand in rows the first is before the second.
+abbrev pub before : Rows → Tid → Tid → Bool
+before rs a b = is_seat_before (seat_of rs a) (seat_of rs b)
+
+-- Threads with their seats.
+abbrev pub Seated : Type 0
+Seated = List (ℕ × Seat)
+
+abbrev pub better : ℕ × Seat → Option (ℕ × Seat) → ℕ × Seat
+better e None = e
+better e (Some f) = if is_before e.1 f.1 then e else f
+
+-- The best of these threads.
+unfoldable pub best_of : Seated → Option (ℕ × Seat)
+best_of [] = None
+best_of (e ∷ es) = Some (better e (best_of es))
+
+unfoldable pub placed : ℕ × Seat → Seated → Seated
+placed e [] = e ∷ []
+placed e (f ∷ fs) = if is_before e.1 f.1 then e ∷ f ∷ fs else f ∷ placed e fs
+
+-- The same threads, each before those behind it.
+unfoldable pub in_order : Seated → Seated
+in_order [] = []
+in_order (e ∷ es) = placed e (in_order es)
+
+-- The threads that stand in a row.
+unfoldable pub standing : Rows → RowId → Seated
+standing rs r = filter (λ e. place_in r e.1.place) rs.seats
+
+abbrev pub numbers_of : Seated → List Tid
+numbers_of es = map (λ e. thread e.0) es
+
+abbrev pub number_in : Option (ℕ × Seat) → Option Tid
+number_in o = option_map (λ e. thread e.0) o
+
+-- The best thread of a row.
+abbrev pub best : Rows → RowId → Option Tid
+best rs r = number_in (best_of (standing rs r))
+
+-- All threads of a row, the best first.
+abbrev pub best_first : Rows → RowId → List Tid
+best_first rs r = numbers_of (in_order (standing rs r))
+
+-- ---- threads that come and go
+
+-- The thread stands in the row from now on, with this rank and the next arrival number.
+abbrev pub put_in_row : Rows → RowId → Tid → ℕ → Rows
+put_in_row rs r t rank = record {
+  seats = put rs.seats t.0 (record { rank = rank; place = Stands r rs.next_arrival });
+  next_arrival = rs.next_arrival + 1;
+}
+
+-- The rows after a thread was to leave its row, and whether it stood in one.
+pub record LeftRow : Type 0 where
+  pub rows : Rows
+  pub stood : Bool
+
+-- The thread leaves its row; where it stands in none nothing changes.
+abbrev pub take_out : Rows → Tid → LeftRow
+take_out rs t = record {
+  rows = record {
+    seats = cut_if (is_in_row (seat_of rs t)) rs.seats t.0;
+    next_arrival = rs.next_arrival;
+  };
+  stood = is_in_row (seat_of rs t);
+}
+
+abbrev pub is_running : Option Seat → Bool
+is_running None = false
+is_running (Some s) = is_none (row_in s.place)
+
+-- The thread's processor becomes free; where it runs nowhere nothing changes.
+abbrev pub leave : Rows → Tid → Rows
+leave rs t = record {
+  seats = cut_if (is_running (seat_of rs t)) rs.seats t.0;
+  next_arrival = rs.next_arrival;
+}
+
+-- The running thread leaves its processor and waits in the row.
+abbrev pub block_in : Rows → RowId → Tid → ℕ → Rows
+block_in rs r t rank = put_in_row (leave rs t) r t rank
+
+-- The same, or nothing.
+abbrev pub block_if : Bool → Rows → RowId → Tid → ℕ → Rows
+block_if waits rs r t rank = record {
+  seats = if waits then (block_in rs r t rank).seats else rs.seats;
+  next_arrival = if waits then (block_in rs r t rank).next_arrival else rs.next_arrival;
+}
+
+-- The thread that is there leaves its row.
+abbrev pub take_out_if : Rows → Option Tid → Rows
+take_out_if rs o = record { seats = seats_without rs o; next_arrival = rs.next_arrival }
+  where
+    seats_without : Rows → Option Tid → Table Seat
+    seats_without rs None = rs.seats
+    seats_without rs (Some t) = (take_out rs t).rows.seats
+
+abbrev pub as_ranked : ℕ → Seat → Seat
+as_ranked rank s = record s { rank = rank }
+
+-- The thread has this rank at its place, and keeps its arrival.
+abbrev pub set_rank : Rows → Tid → ℕ → Rows
+set_rank rs t rank = record {
+  seats = put_if rs.seats t.0 (option_map (as_ranked rank) (seat_of rs t));
+  next_arrival = rs.next_arrival;
+}
+
+-- ---- threads that become ready
+
+-- The thread becomes ready, with its rank.
+abbrev pub make_ready : (Tid → ℕ) → Rows → Tid → Rows
+make_ready rank rs t = put_in_row rs row.Ready t (rank t)
+
+-- These threads leave their rows and become ready, in this order.
+unfoldable pub make_all_ready : (Tid → ℕ) → Rows → List Tid → Rows
+make_all_ready rank rs [] = rs
+make_all_ready rank rs (t ∷ ts) = make_all_ready rank (make_ready rank (take_out rs t).rows t) ts
+
+-- The rows after all threads of a row have left it, and these threads.
+pub record Freed : Type 0 where
+  pub rows : Rows
+  pub woken : List Tid
+
+-- All threads of a row become ready, the best first: those that wait for a once block that is done, or for a thread that has
+-- ended.
+abbrev pub free_row : (Tid → ℕ) → Rows → RowId → Freed
+free_row rank rs r = record { rows = make_all_ready rank rs (best_first rs r); woken = best_first rs r }

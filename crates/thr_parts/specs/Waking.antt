@@ -1,0 +1,185 @@
+-- Waits on conditions and for times that end (docs/machine.md, "Waits that end").
+use Rattle.std.specs.Prelude.{ℕ, Bool, true, false, if◌then◌else◌, is_some, int_le, int_lt, ℤ, List, [], ◌∷◌, ◌++◌, Option, Some, None}
+use Rattle.std.specs.List.{filter}
+use Rattle.std.specs.Option.{option_map, option_and_then}
+use Rattle.thr_values.specs.declared.number.Tid.{Tid}
+use Rattle.thr_values.specs.declared.number.NameId.{NameId}
+use Rattle.thr_values.specs.declared.reply.Reply.{Reply}
+use Rattle.thr_parts.specs.declared.row.RowId.TheVariants as row
+use Rattle.thr_parts.specs.declared.wait.Wait.{Wait}
+use Rattle.thr_parts.specs.Tables.{Table, get, has, cut, keep_if}
+use Rattle.thr_parts.specs.Replies.{made_reply}
+use Rattle.thr_parts.specs.Rows.{Rows, Seated, best, best_first, best_of, in_order, numbers_of, number_in, take_out, take_out_if, make_ready}
+use Rattle.thr_parts.specs.Mutexes.{Locks, Regained, regain}
+use Rattle.thr_parts.specs.Conditions.{Conds, wait_of, mutex_of, time_of}
+
+-- ---- one thread leaves its wait
+
+abbrev pub waits_without : Table Wait → Option Tid → Table Wait
+waits_without waits None = waits
+waits_without waits (Some t) = cut waits t.0
+
+-- The conditions without the wait of the thread that is there.
+abbrev pub without_wait : Conds → Option Tid → Conds
+without_wait cs t = record { made = cs.made; waits = waits_without cs.waits t }
+
+abbrev pub some_if : Bool → Tid → Option Tid
+some_if b t = keep_if b (Some t)
+
+-- Conditions and rows after a thread was to leave its wait, and the mutex with which it waited on a condition.
+pub record LeftWait : Type 0 where
+  pub conds : Conds
+  pub rows : Rows
+  pub left : Option (Option NameId)
+
+-- The thread leaves its wait on a condition or for a time; where it has none nothing changes.
+abbrev pub pull_out : Conds → Rows → Tid → LeftWait
+pull_out cs rs t = record {
+  conds = without_wait cs (some_if (is_some (wait_of cs t)) t);
+  rows = take_out_if rs (some_if (is_some (wait_of cs t)) t);
+  left = option_map mutex_of (wait_of cs t);
+}
+
+-- The mutex with which a thread waits on a condition.
+abbrev pub mutex_with : Conds → Tid → Option NameId
+mutex_with cs t = option_and_then mutex_of (wait_of cs t)
+
+abbrev pub beside_mutex : Conds → Tid → Option (Tid × NameId)
+beside_mutex cs t = option_map (λ m. (t, m)) (mutex_with cs t)
+
+abbrev pub thread_in : {A : Type 0} → Option (Tid × A) → Option Tid
+thread_in o = option_map (λ p. p.0) o
+
+-- The best thread that waits on a condition, with its mutex.
+abbrev pub next_waiter : Conds → Rows → NameId → Option (Tid × NameId)
+next_waiter cs rs c = option_and_then (beside_mutex cs) (best rs (row.Cond c))
+
+-- Conditions and rows after the best waiter was to leave a condition, and that waiter with its mutex.
+pub record TakenNext : Type 0 where
+  pub conds : Conds
+  pub rows : Rows
+  pub waiter : Option (Tid × NameId)
+
+abbrev pub take_next : Conds → Rows → NameId → TakenNext
+take_next cs rs c =
+    let next : Option (Tid × NameId) = next_waiter cs rs c in record {
+      conds = without_wait cs (thread_in next);
+      rows = take_out_if rs (thread_in next);
+      waiter = next;
+    }
+
+pub record Signalled : Type 0 where
+  pub reply : Reply
+  pub conds : Conds
+  pub rows : Rows
+  pub waiter : Option (Tid × NameId)
+
+-- The best waiter leaves the condition.
+abbrev pub signal : Conds → Rows → NameId → Signalled
+signal cs rs c =
+    let next : Option (Tid × NameId) = keep_if (has cs.made c.0) (next_waiter cs rs c) in record {
+      reply = made_reply (has cs.made c.0);
+      conds = without_wait cs (thread_in next);
+      rows = take_out_if rs (thread_in next);
+      waiter = next;
+    }
+
+-- ---- times
+
+abbrev pub sooner : Option ℤ → Option ℤ → Option ℤ
+sooner None b = b
+sooner (Some a) None = Some a
+sooner (Some a) (Some b) = Some (if int_lt b a then b else a)
+
+unfoldable pub earliest_in : Table Wait → Option ℤ
+earliest_in [] = None
+earliest_in (e ∷ es) = sooner (time_of e.1) (earliest_in es)
+
+-- The earliest time for which a thread waits.
+abbrev pub earliest : Conds → Option ℤ
+earliest cs = earliest_in cs.waits
+
+abbrev pub has_come : ℤ → Option ℤ → Bool
+has_come now None = false
+has_come now (Some time) = int_le time now
+
+-- The time has come for which the thread of this number waits.
+abbrev pub is_due : Conds → ℤ → ℕ → Bool
+is_due cs now t = has_come now (option_and_then time_of (get cs.waits t))
+
+-- The threads whose time has come, in whatever rows.
+unfoldable pub due : Conds → Rows → ℤ → Seated
+due cs rs now = filter (λ e. is_due cs now e.0) rs.seats
+
+abbrev pub due_first : Conds → Rows → ℤ → List Tid
+due_first cs rs now = numbers_of (in_order (due cs rs now))
+
+-- Conditions and rows after the best thread whose time has come was to leave its wait, and that thread with its mutex where
+-- it waited on a condition.
+pub record Expired : Type 0 where
+  pub conds : Conds
+  pub rows : Rows
+  pub who : Option (Tid × Option NameId)
+
+abbrev pub beside_wait : Conds → Tid → Tid × Option NameId
+beside_wait cs t = (t, mutex_with cs t)
+
+abbrev pub expire : Conds → Rows → ℤ → Expired
+expire cs rs now =
+    let next : Option Tid = number_in (best_of (due cs rs now)) in record {
+      conds = without_wait cs next;
+      rows = take_out_if rs next;
+      who = option_map (beside_wait cs) next;
+    }
+
+-- ---- several threads leave their waits
+
+-- Conditions, locks and rows after threads have left their waits; these threads in their order, each with its mutex where it
+-- waited on a condition; and those that got their mutex at once, in the same order.
+pub record Woken : Type 0 where
+  pub conds : Conds
+  pub locks : Locks
+  pub rows : Rows
+  pub woken : List (Tid × Option NameId)
+  pub gifts : List (Tid × NameId)
+
+-- A thread that left a wait is ready, but one that waited on a condition gets its mutex first or waits for it.
+abbrev pub resume : (Tid → ℕ) → Locks → Rows → Tid → Option NameId → Regained
+resume rank ls rs t None = record { locks = ls; rows = make_ready rank rs t; gets = false }
+resume rank ls rs t (Some m) = regain ls rs m t (rank t)
+
+abbrev pub gift_of : Tid → Option NameId → Bool → List (Tid × NameId)
+gift_of t (Some m) true = (t, m) ∷ []
+gift_of t _ _ = []
+
+-- These threads leave their waits one after the other.
+unfoldable pub wake_all : (Tid → ℕ) → Conds → Locks → Rows → List Tid → Woken
+wake_all rank cs ls rs [] = record { conds = cs; locks = ls; rows = rs; woken = []; gifts = [] }
+wake_all rank cs ls rs (t ∷ ts) =
+    let o : Regained = resume rank ls (pull_out cs rs t).rows t (mutex_with cs t) in
+    let rest : Woken = wake_all rank (pull_out cs rs t).conds o.locks o.rows ts in record {
+      conds = rest.conds;
+      locks = rest.locks;
+      rows = rest.rows;
+      woken = beside_wait cs t ∷ rest.woken;
+      gifts = gift_of t (mutex_with cs t) o.gets ++ rest.gifts;
+    }
+
+-- A reply, and what was woken.
+pub record Notified : Type 0 where
+  pub reply : Reply
+  pub woken : Woken
+
+abbrev pub notify : (Tid → ℕ) → Conds → Locks → Rows → NameId → List Tid → Notified
+notify rank cs ls rs c ts = record {
+  reply = made_reply (has cs.made c.0);
+  woken = wake_all rank cs ls rs (if has cs.made c.0 then ts else []);
+}
+
+-- Every thread that waits on the condition leaves it, the best first.
+abbrev pub broadcast : (Tid → ℕ) → Conds → Locks → Rows → NameId → Notified
+broadcast rank cs ls rs c = notify rank cs ls rs c (best_first rs (row.Cond c))
+
+-- Every thread whose time has come leaves its wait, the best of all of them first.
+abbrev pub expire_all : (Tid → ℕ) → Conds → Locks → Rows → ℤ → Woken
+expire_all rank cs ls rs now = wake_all rank cs ls rs (due_first cs rs now)
