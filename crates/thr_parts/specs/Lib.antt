@@ -14,3 +14,4 @@ pub mod OnceBlocks
 pub mod Pipes
 pub mod CancelledWaits
 pub mod Computing
+pub mod Samples

@@ -30,6 +30,9 @@ pub record Pipes : Type 0 where
 abbrev pub new_pipe : ℕ → Pipe
 new_pipe capacity = record { capacity = capacity; is_open = true; items = [] }
 
+abbrev pub no_pipes : Pipes
+no_pipes = record { pipes = none; writing = none }
+
 unfoldable pub declared_pipes : List Item → Table Pipe
 declared_pipes [] = none
 declared_pipes (item.Pipe p capacity ∷ items) = put (declared_pipes items) p.0 (new_pipe capacity)

@@ -3,6 +3,7 @@
 //! and whose contracts are the laws.
 #![tactic(auto)]
 
+pub mod examples;
 pub mod mutex;
 pub mod once;
 pub mod pipe;
