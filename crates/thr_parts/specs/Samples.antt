@@ -1,5 +1,5 @@
 -- Small states for the worked examples.
-use Rattle.std.specs.Prelude.{ℕ, zero, suc, ◌+◌, Bool, true, false, ℤ, pos, List, [], ◌∷◌, Option, Some, None, ⊤}
+use Rattle.std.specs.Prelude.{ℕ, zero, suc, ◌+◌, Bool, true, false, ℤ, pos, List, [], ◌∷◌, map, Option, Some, None, ⊤}
 use Rattle.thr_values.specs.declared.number.Tid.{Tid}
 use Rattle.thr_values.specs.declared.number.NameId.{NameId}
 use Rattle.thr_values.specs.declared.reply.Kind.{Kind}
@@ -77,6 +77,18 @@ held kind t depth = record { kind = kind; held = Some (record { owner = thread t
 -- The locks with these mutexes alone.
 abbrev pub locks : Table Mutex → Locks
 locks mutexes = record { kinds = none; mutexes = mutexes; global = None }
+
+-- The locks with these attribute cells alone.
+abbrev pub kinds : Table Kind → Locks
+kinds cells = record { kinds = cells; mutexes = none; global = None }
+
+-- The locks with the global lock alone, so often locked by this thread.
+abbrev pub global : ℕ → ℕ → Locks
+global t depth = record { kinds = none; mutexes = none; global = Some (record { owner = thread t; depth = depth }) }
+
+-- Conditions that are made, with nobody waiting.
+abbrev pub made : List ℕ → Conds
+made names = record { made = map (λ n. (n, tt)) names; waits = none }
 
 -- Conditions 20 and 21 are made, and these threads wait.
 abbrev pub conds : Table Wait → Conds

@@ -2,5 +2,8 @@
 //! does nothing and whose contract is the example.
 
 pub mod cancels;
+pub mod conditions;
+pub mod mutexes;
 pub mod rows;
 pub mod threads;
+pub mod times;
