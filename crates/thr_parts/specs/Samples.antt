@@ -11,6 +11,7 @@ use Rattle.thr_parts.specs.declared.row.Place.TheVariants.{Runs, Stands}
 use Rattle.thr_parts.specs.declared.row.Seat.{Seat}
 use Rattle.thr_values.specs.declared.scheduling.Policy.TheVariants.{Fg}
 use Rattle.thr_values.specs.declared.scheduling.Mode.{Mode}
+use Rattle.thr_parts.specs.declared.once.OnceBlock.{OnceBlock}
 use Rattle.thr_parts.specs.declared.pipe.Writing.{Writing}
 use Rattle.thr_parts.specs.declared.thread.Attr.{Attr}
 use Rattle.thr_parts.specs.declared.thread.Thread.{Thread}
@@ -20,6 +21,7 @@ use Rattle.thr_parts.specs.Rows.{Rows, thread}
 use Rattle.thr_parts.specs.Threads.{Threads, new_thread}
 use Rattle.thr_parts.specs.Mutexes.{Locks}
 use Rattle.thr_parts.specs.Conditions.{Conds}
+use Rattle.thr_parts.specs.Keys.{Key, Onces}
 use Rattle.thr_parts.specs.Pipes.{Pipes}
 
 abbrev pub name : ℕ → NameId
@@ -102,3 +104,18 @@ pipes capacity is_open items writing = record {
   pipes = (40, record { capacity = capacity; is_open = is_open; items = items }) ∷ [];
   writing = writing;
 }
+
+-- A wait as a writer of pipe 40.
+abbrev pub writer : ℕ → Writing
+writer v = record { pipe = name 40; item = pos v }
+
+-- ---- once blocks and keys
+
+abbrev pub blocks : Table OnceBlock → Onces
+blocks states = record { blocks = states; keys = none }
+
+abbrev pub keys : Table Key → Onces
+keys made = record { blocks = none; keys = made }
+
+abbrev pub key : Option NameId → Table ℤ → Key
+key destructor values = record { destructor = destructor; values = values }

@@ -4,6 +4,8 @@
 pub mod cancels;
 pub mod conditions;
 pub mod mutexes;
+pub mod onces;
+pub mod pipes;
 pub mod rows;
 pub mod threads;
 pub mod times;
