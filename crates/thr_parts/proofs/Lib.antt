@@ -1,1 +1,3 @@
-
+pub mod TableLaws
+pub mod EntryLaws
+pub mod BestLaws

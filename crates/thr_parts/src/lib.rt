@@ -4,6 +4,7 @@
 #![tactic(auto)]
 
 pub mod examples;
+pub mod laws;
 pub mod mutex;
 pub mod once;
 pub mod pipe;
