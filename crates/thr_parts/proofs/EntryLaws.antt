@@ -64,11 +64,11 @@ get_first e es = get_cons e es e.0 ∙ ap (λ b. cond b (Some e.1) (get es e.0))
 
 -- ---- entries that pass a test
 
-pub pass : {A : Type 0} → (ℕ × A → Bool) → ℕ → Option A → Option A
+unfoldable pub pass : {A : Type 0} → (ℕ × A → Bool) → ℕ → Option A → Option A
 pass p q None = None
 pass p q (Some v) = cond (p (q, v)) (Some v) None
 
-pass_none : {A : Type 0} (p : ℕ × A → Bool) (q : ℕ) → pass p q None ≡ None
+pub pass_none : {A : Type 0} (p : ℕ × A → Bool) (q : ℕ) → pass p q None ≡ None
 unfolding pass
 pass_none p q = refl
 
@@ -141,3 +141,19 @@ twice_head p r x xs false false e f rest = rest
 pub filter_twice : {A : Type 0} (p r : A → Bool) (xs : List A) → filter p (filter r xs) ≡ filter r (filter p xs)
 filter_twice p r [] = refl
 filter_twice p r (x ∷ xs) = twice_head p r x xs (p x) (r x) refl refl (filter_twice p r xs)
+
+alike_head : {A : Type 0} (p r t : A → Bool) (x : A) (xs : List A) (b : Bool) → r x ≡ b → (r x ≡ true → p x ≡ t x) → filter p (filter r xs) ≡ filter t (filter r xs)
+    → filter p (cond b (x ∷ filter r xs) (filter r xs)) ≡ filter t (cond b (x ∷ filter r xs) (filter r xs))
+alike_head p r t x xs true is alike rest =
+    ap (λ c. cond c (x ∷ filter p (filter r xs)) (filter p (filter r xs))) (alike is) ∙ ap (λ l. cond (t x) (x ∷ l) l) rest
+alike_head p r t x xs false is alike rest = rest
+
+-- Tests that are alike on what passes r.
+pub filter_alike : {A : Type 0} (p r t : A → Bool) → ((x : A) → r x ≡ true → p x ≡ t x) → (xs : List A) → filter p (filter r xs) ≡ filter t (filter r xs)
+filter_alike p r t alike [] = refl
+filter_alike p r t alike (x ∷ xs) = alike_head p r t x xs (r x) refl (alike x) (filter_alike p r t alike xs)
+
+-- The entries but the one of this number are those of the table without it.
+pub cut_is : {A : Type 0} (m : Table A) (k : ℕ) → cut m k ≡ filter (λ e. not (eqb k e.0)) m
+unfolding cut
+cut_is m k = refl

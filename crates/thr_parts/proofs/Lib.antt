@@ -1,3 +1,6 @@
 pub mod TableLaws
 pub mod EntryLaws
 pub mod BestLaws
+pub mod RowLaws
+pub mod MoveLaws
+pub mod WakeLaws

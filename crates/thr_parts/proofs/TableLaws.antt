@@ -8,7 +8,7 @@ use Rattle.std.specs.Cmp.{nat_cmp_total}
 use Rattle.std.specs.FinMap.{nat_cmp-IsAntisymmetric}
 use Rattle.std.specs.FinMap.Entries as entries
 use Rattle.std.specs.declared.cmp.Ordering.TheVariants.{Less, Equal, Greater}
-use Rattle.thr_parts.specs.Tables.{Table, none, get, at, has, put, cut, names, present, IsCanonical}
+use Rattle.thr_parts.specs.Tables.{Table, none, get, at, has, put, cut, put_if, cut_if, present, IsCanonical}
 
 -- ---- what stands at a number
 
@@ -98,6 +98,14 @@ put_cut_read false v o = refl
 pub put_cut : {A : Type 0} (m : Table A) (k : ℕ) (v : A) → IsCanonical m → put (cut m k) k v ≡ put m k v
 put_cut m k v h = same_table _ _ (canonical_put (cut m k) k v (canonical_cut m k h)) (canonical_put m k v h) (λ q.
     get_put (cut m k) k q v ∙ ap (cond (eqb k q) (Some v)) (get_cut m k q) ∙ put_cut_read (eqb k q) v (get m q) ∙ sym (get_put m k q v))
+
+pub canonical_put_if : {A : Type 0} (m : Table A) (k : ℕ) (o : Option A) → IsCanonical m → IsCanonical (put_if m k o)
+canonical_put_if m k None h = h
+canonical_put_if m k (Some v) h = canonical_put m k v h
+
+pub canonical_cut_if : {A : Type 0} (b : Bool) (m : Table A) (k : ℕ) → IsCanonical m → IsCanonical (cut_if b m k)
+canonical_cut_if true m k h = canonical_cut m k h
+canonical_cut_if false m k h = h
 
 -- ---- tables of lists
 

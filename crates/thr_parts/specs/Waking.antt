@@ -152,18 +152,23 @@ abbrev pub gift_of : Tid → Option NameId → Bool → List (Tid × NameId)
 gift_of t (Some m) true = (t, m) ∷ []
 gift_of t _ _ = []
 
+-- What was woken after a thread that was woken first.
+abbrev pub woken_first : Tid → Option NameId → Bool → Woken → Woken
+woken_first t m gets rest = record {
+  conds = rest.conds;
+  locks = rest.locks;
+  rows = rest.rows;
+  woken = (t, m) ∷ rest.woken;
+  gifts = gift_of t m gets ++ rest.gifts;
+}
+
 -- These threads leave their waits one after the other.
 unfoldable pub wake_all : (Tid → ℕ) → Conds → Locks → Rows → List Tid → Woken
 wake_all rank cs ls rs [] = record { conds = cs; locks = ls; rows = rs; woken = []; gifts = [] }
 wake_all rank cs ls rs (t ∷ ts) =
-    let o : Regained = resume rank ls (pull_out cs rs t).rows t (mutex_with cs t) in
-    let rest : Woken = wake_all rank (pull_out cs rs t).conds o.locks o.rows ts in record {
-      conds = rest.conds;
-      locks = rest.locks;
-      rows = rest.rows;
-      woken = beside_wait cs t ∷ rest.woken;
-      gifts = gift_of t (mutex_with cs t) o.gets ++ rest.gifts;
-    }
+    let left : LeftWait = pull_out cs rs t in
+    let o : Regained = resume rank ls left.rows t (mutex_with cs t) in
+    woken_first t (mutex_with cs t) o.gets (wake_all rank left.conds o.locks o.rows ts)
 
 -- A reply, and what was woken.
 pub record Notified : Type 0 where
