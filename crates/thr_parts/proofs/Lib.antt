@@ -4,3 +4,5 @@ pub mod BestLaws
 pub mod RowLaws
 pub mod MoveLaws
 pub mod WakeLaws
+pub mod DueLaws
+pub mod StandingLaws

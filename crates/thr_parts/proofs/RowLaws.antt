@@ -92,7 +92,7 @@ seat_of_row rs t r e = seat_in rs t.0 r (get rs.seats t.0) refl e
 pub row_of_seat : (rs : Rows) (t : Tid) (r : RowId) (s : Seat) → HasSeat rs t.0 r s → row_of rs t ≡ Some r
 row_of_seat rs t r s h = ap row_at h.at ∙ placed_row r s.place h.placed
 
-stands : (rs : Rows) (q : ℕ) (r : RowId) (s : Seat) → HasSeat rs q r s → IsCanonical rs.seats → get (standing rs r) q ≡ Some s
+pub stands : (rs : Rows) (q : ℕ) (r : RowId) (s : Seat) → HasSeat rs q r s → IsCanonical rs.seats → get (standing rs r) q ≡ Some s
 stands rs q r s h sorted = get_standing rs r q sorted ∙ ap (pass (is_in r) q) h.at ∙ pass_some (is_in r) q s ∙ ap (λ b. cond b (Some s) None) h.placed
 
 passed : (r : RowId) (q : ℕ) (s v : Seat) (b : Bool) → is_in r (q, v) ≡ b → cond b (Some v) None ≡ Some s → (Some v ≡ Some s) × (place_in r s.place ≡ true)

@@ -12,7 +12,7 @@ use Rattle.thr_parts.specs.Tables.{Table, get, put, cut, cut_if, IsCanonical}
 use Rattle.thr_parts.specs.Rows.{Rows, Seated, thread, seat_of, is_same_row, is_in_row, best_of, in_order, standing, numbers_of, number_in, best, best_first, put_in_row, take_out, take_out_if, make_ready, make_all_ready, Freed, free_row}
 use Rattle.thr_parts.specs.Mutexes.{Locks, Regained, regain, mutex_at, is_free}
 use Rattle.thr_parts.specs.Conditions.{Conds, wait_of, time_of}
-use Rattle.thr_parts.specs.Waking.{LeftWait, pull_out, some_if, mutex_with, without_wait, waits_without, has_come, is_due, due, due_first, Woken, resume, woken_first, wake_all}
+use Rattle.thr_parts.specs.Waking.{LeftWait, pull_out, some_if, mutex_with, without_wait, waits_without, has_come, is_due, due, due_first, Woken, resume, woken_first, wake_all, wake_then}
 use Rattle.thr_parts.proofs.TableLaws.{get_cut, canonical_cut, canonical_cut_if, canonical_put, same_table}
 use Rattle.thr_parts.proofs.EntryLaws.{itself, pass, pass_some, canonical_filter, get_filter, filter_put, filter_twice, filter_alike, cut_is}
 use Rattle.thr_parts.proofs.BestLaws.{found, best_leads, nobody_in_order}
@@ -34,7 +34,7 @@ cut_if_cut true m k h = cut_twice m k h
 cut_if_cut false m k h = refl
 
 -- Whether or not the thread was taken out.
-out_cut : (rs : Rows) (b : Bool) (t : Tid) → IsCanonical rs.seats → cut (take_out_if rs (some_if b t)).seats t.0 ≡ cut rs.seats t.0
+pub out_cut : (rs : Rows) (b : Bool) (t : Tid) → IsCanonical rs.seats → cut (take_out_if rs (some_if b t)).seats t.0 ≡ cut rs.seats t.0
 out_cut rs true t h = cut_if_cut (is_in_row (seat_of rs t)) rs.seats t.0 h
 out_cut rs false t h = refl
 
@@ -83,12 +83,8 @@ rest_resumed rank cs ls rs t m r apart h =
     ap (λ l. numbers_of (in_order l)) (resumed rank ls (pull_out cs rs t).rows t m r apart (canonical_take_out_if rs (some_if (is_some (wait_of cs t)) t) h)
       ∙ ap (filter (is_in r)) (out_cut rs (is_some (wait_of cs t)) t h))
 
--- What is woken where one thread is, and then the others.
 abbrev pub WakesFirst : (Tid → ℕ) → Conds → Locks → Rows → Tid → (Conds → Rows → List Tid) → Type 0
-WakesFirst rank cs ls rs t others =
-    let left : LeftWait = pull_out cs rs t in
-    let o : Regained = resume rank ls left.rows t (mutex_with cs t) in
-    wake_all rank cs ls rs (others cs rs) ≡ woken_first t (mutex_with cs t) o.gets (wake_all rank left.conds o.locks o.rows (others left.conds o.rows))
+WakesFirst rank cs ls rs t others = wake_all rank cs ls rs (others cs rs) ≡ wake_then rank cs ls rs t others
 
 pub wake_row_nobody : (rank : Tid → ℕ) (cs : Conds) (ls : Locks) (rs : Rows) (r : RowId) → best rs r ≡ None
     → wake_all rank cs ls rs (best_first rs r) ≡ record { conds = cs; locks = ls; rows = rs; woken = []; gifts = [] }
@@ -100,3 +96,6 @@ pub wake_row_step : (rank : Tid → ℕ) (cs : Conds) (ls : Locks) (rs : Rows) (
 unfolding wake_all
 wake_row_step rank cs ls rs r t h apart e =
     ap (wake_all rank cs ls rs) (best_then_rest rs r t h e ∙ ap (λ l. t ∷ l) (sym (rest_resumed rank cs ls rs t (mutex_with cs t) r apart h)))
+
+pub cond_is_elsewhere : (c : NameId) → IsElsewhere (row.Cond c)
+cond_is_elsewhere c = record { ready = refl; mutex = λ m. refl }

@@ -1,6 +1,6 @@
 -- Threads in rows and on processors, and the best thread of a row (docs/machine.md, "Rows").
 use Rattle.std.specs.Prelude.{ℕ, ◌+◌, Bool, true, false, ◌&&◌, ◌||◌, ◌==◌, nat_lt, if◌then◌else◌, is_some, is_none, List, [], ◌∷◌, map, Option, Some, None}
-use Rattle.std.specs.List.{filter}
+use Rattle.std.specs.List.{filter, list_any}
 use Rattle.std.specs.Option.{option_map}
 use Rattle.thr_values.specs.declared.number.Tid.{Tid}
 use Rattle.thr_parts.specs.declared.row.RowId.{RowId}
@@ -114,6 +114,9 @@ best rs r = number_in (best_of (standing rs r))
 -- All threads of a row, the best first.
 abbrev pub best_first : Rows → RowId → List Tid
 best_first rs r = numbers_of (in_order (standing rs r))
+
+abbrev pub is_among : Tid → List Tid → Bool
+is_among t ts = list_any (λ u. u.0 == t.0) ts
 
 -- ---- threads that come and go
 

@@ -170,6 +170,13 @@ wake_all rank cs ls rs (t ∷ ts) =
     let o : Regained = resume rank ls left.rows t (mutex_with cs t) in
     woken_first t (mutex_with cs t) o.gets (wake_all rank left.conds o.locks o.rows ts)
 
+-- One thread leaves its wait, and after it those that the conditions and rows tell then.
+abbrev pub wake_then : (Tid → ℕ) → Conds → Locks → Rows → Tid → (Conds → Rows → List Tid) → Woken
+wake_then rank cs ls rs t others =
+    let left : LeftWait = pull_out cs rs t in
+    let o : Regained = resume rank ls left.rows t (mutex_with cs t) in
+    woken_first t (mutex_with cs t) o.gets (wake_all rank left.conds o.locks o.rows (others left.conds o.rows))
+
 -- A reply, and what was woken.
 pub record Notified : Type 0 where
   pub reply : Reply
