@@ -99,3 +99,7 @@ wake_row_step rank cs ls rs r t h apart e =
 
 pub cond_is_elsewhere : (c : NameId) → IsElsewhere (row.Cond c)
 cond_is_elsewhere c = record { ready = refl; mutex = λ m. refl }
+
+pub wake_cond_step : (rank : Tid → ℕ) (cs : Conds) (ls : Locks) (rs : Rows) (c : NameId) (t : Tid) → IsCanonical rs.seats → best rs (row.Cond c) ≡ Some t
+    → WakesFirst rank cs ls rs t (λ _ rows. best_first rows (row.Cond c))
+wake_cond_step rank cs ls rs c t h e = wake_row_step rank cs ls rs (row.Cond c) t h (cond_is_elsewhere c) e
