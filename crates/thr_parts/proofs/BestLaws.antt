@@ -1,14 +1,14 @@
 -- The best of several threads: it is one of them, none comes before it, and in their order it is the first.
-use Rattle.std.proofs.Common.{◌≡◌, ℕ, ◌<◌, Bool, true, false, not, ◌&&◌, ◌||◌, cond, eqb, List, [], ◌∷◌, Option, Some, None, refl, sym, arith, ◌∙◌, ap, subst}
+use Rattle.std.proofs.Common.{◌≡◌, ℕ, ◌<◌, Bool, true, false, not, cond, eqb, [], ◌∷◌, Option, Some, None, refl, sym, arith, ◌∙◌, ap, subst}
 use Rattle.std.proofs.lemmas.Bool.Decides.{nat_tests}
 use Rattle.std.specs.List.{filter}
 use Rattle.std.specs.Option.{unwrap_or}
 use Rattle.std.specs.Ordering.{nat_cmp}
 use Rattle.std.specs.FinMap.Entries as entries
 use Rattle.thr_parts.specs.declared.row.Seat.{Seat}
-use Rattle.thr_parts.specs.Tables.{Table, get, cut, IsCanonical}
-use Rattle.thr_parts.specs.Rows.{Seated, is_before, better, best_of, placed, in_order, arrival_in}
-use Rattle.thr_parts.proofs.EntryLaws.{both_true, itself, get_cons, get_empty, get_first, get_behind, above, nothing_at}
+use Rattle.thr_parts.specs.Tables.{get, IsCanonical}
+use Rattle.thr_parts.specs.Rows.{Seated, is_before, better, best_of, placed, in_order}
+use Rattle.thr_parts.proofs.EntryLaws.{both_true, itself, get_cons, get_empty, get_first, get_behind, above}
 
 -- ---- the order
 
@@ -134,18 +134,18 @@ headed_among : (e : ℕ × Seat) (es : Seated) (w f : ℕ × Seat) (b : Bool) �
     → in_order es ≡ f ∷ in_order (without f.0 es) → cond b e f ≡ w → placed e (in_order es) ≡ w ∷ in_order (without w.0 (e ∷ es))
 headed_among e es w f true h below behind rest is =
     subst (λ x. placed e (in_order es) ≡ x ∷ in_order (without x.0 (e ∷ es))) is
-      (ap (placed e) rest ∙ placed_cons e f (in_order (without f.0 es)) true h ∙ ap (λ l. e ∷ l) (sym rest) ∙ sym (ap (λ l. e ∷ in_order l) (without_first e es below)))
+    (ap (placed e) rest ∙ placed_cons e f (in_order (without f.0 es)) true h ∙ ap (λ l. e ∷ l) (sym rest) ∙ sym (ap (λ l. e ∷ in_order l) (without_first e es below)))
 headed_among e es w f false h below behind rest is =
     subst (λ x. placed e (in_order es) ≡ x ∷ in_order (without x.0 (e ∷ es))) is
-      (ap (placed e) rest ∙ placed_cons e f (in_order (without f.0 es)) false h
-      ∙ sym (ap (λ l. f ∷ in_order l) (without_later e es f.0 behind) ∙ ap (λ l. f ∷ l) (order_cons e (without f.0 es))))
+    (ap (placed e) rest ∙ placed_cons e f (in_order (without f.0 es)) false h
+    ∙ sym (ap (λ l. f ∷ in_order l) (without_later e es f.0 behind) ∙ ap (λ l. f ∷ l) (order_cons e (without f.0 es))))
 
 headed_by : (e : ℕ × Seat) (es : Seated) (w : ℕ × Seat) (o : Option (ℕ × Seat)) → best_of es ≡ o → entries.below_all nat_cmp e.0 es ≡ true → IsCanonical es
     → ((f : ℕ × Seat) → best_of es ≡ Some f → in_order es ≡ f ∷ in_order (without f.0 es)) → (best_of es ≡ None → in_order es ≡ []) → better e o ≡ w
     → placed e (in_order es) ≡ w ∷ in_order (without w.0 (e ∷ es))
 headed_by e es w None at below sorted rest alone is =
     subst (λ x. placed e (in_order es) ≡ x ∷ in_order (without x.0 (e ∷ es))) is
-      (ap (placed e) (alone at) ∙ placed_empty e ∙ sym (ap (λ l. e ∷ l) (ap in_order (without_first e es below) ∙ alone at)))
+    (ap (placed e) (alone at) ∙ placed_empty e ∙ sym (ap (λ l. e ∷ l) (ap in_order (without_first e es below) ∙ alone at)))
 headed_by e es w (Some f) at below sorted rest alone is =
     headed_among e es w f (is_before e.1 f.1) refl below (above e.0 f.0 f.1 es below (found es f sorted at)) (rest f at) is
 

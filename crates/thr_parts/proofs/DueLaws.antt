@@ -1,21 +1,21 @@
 -- The threads whose time has come, related to one thread at a time.
-use Rattle.std.proofs.Common.{◌≡◌, ℕ, Bool, true, false, not, ◌&&◌, cond, eqb, List, [], ◌∷◌, Option, Some, None, refl, sym, ◌∙◌, ap, subst, ℤ, arith}
+use Rattle.std.proofs.Common.{◌≡◌, ℕ, Bool, true, false, not, cond, eqb, [], ◌∷◌, Option, Some, None, refl, sym, ◌∙◌, ap, subst, ℤ, arith}
 use Rattle.std.proofs.lemmas.Bool.Decides.{nat_tests}
 use Rattle.std.specs.List.{filter}
-use Rattle.std.specs.Option.{option_map, option_and_then, is_some, unwrap_or}
+use Rattle.std.specs.Option.{option_and_then, is_some, unwrap_or}
 use Rattle.thr_values.specs.declared.number.Tid.{Tid}
 use Rattle.thr_values.specs.declared.number.NameId.{NameId}
 use Rattle.thr_parts.specs.declared.row.RowId.{RowId}
 use Rattle.thr_parts.specs.declared.row.RowId.TheVariants as row
 use Rattle.thr_parts.specs.declared.row.Seat.{Seat}
 use Rattle.thr_parts.specs.declared.wait.Wait.{Wait}
-use Rattle.thr_parts.specs.Tables.{Table, get, put, cut, IsCanonical}
-use Rattle.thr_parts.specs.Rows.{Rows, Seated, thread, best_of, in_order, numbers_of, number_in, put_in_row, make_ready}
-use Rattle.thr_parts.specs.Mutexes.{Locks, Regained, regain, mutex_at, is_free}
+use Rattle.thr_parts.specs.Tables.{Table, get, cut, IsCanonical}
+use Rattle.thr_parts.specs.Rows.{Rows, thread, best_of, in_order, numbers_of, number_in, put_in_row}
+use Rattle.thr_parts.specs.Mutexes.{Locks, mutex_at, is_free}
 use Rattle.thr_parts.specs.Conditions.{Conds, wait_of, time_of}
-use Rattle.thr_parts.specs.Waking.{LeftWait, pull_out, some_if, without_wait, mutex_with, has_come, is_due, due, due_first, Woken, resume, woken_first, wake_all}
+use Rattle.thr_parts.specs.Waking.{pull_out, some_if, without_wait, mutex_with, has_come, is_due, due, due_first, resume, wake_all}
 use Rattle.thr_parts.proofs.TableLaws.{get_cut}
-use Rattle.thr_parts.proofs.EntryLaws.{itself, pass, pass_some, canonical_filter, get_filter, filter_put, filter_twice, filter_alike, cut_is}
+use Rattle.thr_parts.proofs.EntryLaws.{itself, pass, canonical_filter, get_filter, filter_put, filter_twice, filter_alike, cut_is}
 use Rattle.thr_parts.proofs.BestLaws.{found, best_leads, nobody_in_order}
 use Rattle.thr_parts.proofs.RowLaws.{no_number}
 use Rattle.thr_parts.proofs.MoveLaws.{canonical_take_out_if}
@@ -100,9 +100,9 @@ step_from : (rank : Tid → ℕ) (cs : Conds) (ls : Locks) (rs : Rows) (now : �
 unfolding wake_all
 step_from rank cs ls rs now t e h is same =
     subst (λ (x : Tid). WakesFirst rank cs ls rs x (λ conds rows. due_first conds rows now)) same
-      (ap (wake_all rank cs ls rs) (ap numbers_of (best_leads (due cs rs now) e (canonical_due cs rs now h) is)
-        ∙ ap (λ l. thread e.0 ∷ numbers_of (in_order l))
-          (others_before cs rs now e.0 ∙ sym (others_after rank cs ls rs (thread e.0) now h (waits_if_due now (get cs.waits e.0) (best_is_due cs rs now e h is))))))
+    (ap (wake_all rank cs ls rs) (ap numbers_of (best_leads (due cs rs now) e (canonical_due cs rs now h) is)
+    ∙ ap (λ l. thread e.0 ∷ numbers_of (in_order l))
+    (others_before cs rs now e.0 ∙ sym (others_after rank cs ls rs (thread e.0) now h (waits_if_due now (get cs.waits e.0) (best_is_due cs rs now e h is))))))
 
 wake_from : (rank : Tid → ℕ) (cs : Conds) (ls : Locks) (rs : Rows) (now : ℤ) (t : Tid) (o : Option (ℕ × Seat)) → IsCanonical rs.seats → best_of (due cs rs now) ≡ o → number_in o ≡ Some t
     → WakesFirst rank cs ls rs t (λ conds rows. due_first conds rows now)

@@ -1,5 +1,5 @@
 -- Entries of a table that pass a test, and what stands in a table whose numbers rise.
-use Rattle.std.proofs.Common.{◌≡◌, ℕ, zero, suc, ◌<◌, Bool, true, false, not, ◌&&◌, cond, eqb, List, [], ◌∷◌, Option, Some, None, refl, sym, arith, ◌∙◌, ap, subst}
+use Rattle.std.proofs.Common.{◌≡◌, ℕ, ◌<◌, Bool, true, false, not, ◌&&◌, cond, eqb, List, [], ◌∷◌, Option, Some, None, refl, sym, arith, ◌∙◌, ap, subst}
 use Rattle.std.proofs.lemmas.Bool.Decides.{nat_tests}
 use Rattle.std.specs.List.{filter}
 use Rattle.std.specs.Ordering.{nat_cmp, is_lt}
@@ -127,8 +127,8 @@ pass_changed p k q v o false fails is = refl
 pub filter_put : {A : Type 0} (p : ℕ × A → Bool) (m : Table A) (k : ℕ) (v : A) → IsCanonical m → p (k, v) ≡ false → filter p (put m k v) ≡ filter p (cut m k)
 filter_put p m k v h fails =
     same_table _ _ (canonical_filter p (put m k v) (canonical_put m k v h)) (canonical_filter p (cut m k) (canonical_cut m k h)) (λ q.
-      get_filter p q (put m k v) (canonical_put m k v h) ∙ ap (pass p q) (get_put m k q v) ∙ pass_changed p k q v (get m q) (eqb k q) fails refl
-      ∙ sym (get_filter p q (cut m k) (canonical_cut m k h) ∙ ap (pass p q) (get_cut m k q)))
+    get_filter p q (put m k v) (canonical_put m k v h) ∙ ap (pass p q) (get_put m k q v) ∙ pass_changed p k q v (get m q) (eqb k q) fails refl
+    ∙ sym (get_filter p q (cut m k) (canonical_cut m k h) ∙ ap (pass p q) (get_cut m k q)))
 
 twice_head : {A : Type 0} (p r : A → Bool) (x : A) (xs : List A) (a b : Bool) → p x ≡ a → r x ≡ b → filter p (filter r xs) ≡ filter r (filter p xs)
     → filter p (cond b (x ∷ filter r xs) (filter r xs)) ≡ filter r (cond a (x ∷ filter p xs) (filter p xs))

@@ -1,19 +1,18 @@
 -- Threads that come and go: the rows stay canonical, and the others of a row keep their order.
-use Rattle.std.proofs.Common.{◌≡◌, ℕ, ◌+◌, Bool, true, false, not, ◌&&◌, cond, eqb, List, [], ◌∷◌, map, Option, Some, None, refl, sym, ◌∙◌, ap, subst}
+use Rattle.std.proofs.Common.{◌≡◌, ℕ, Bool, true, false, not, eqb, List, [], ◌∷◌, Option, Some, None, sym, ◌∙◌, ap, subst}
 use Rattle.std.specs.List.{filter}
-use Rattle.std.specs.Option.{option_map, is_some}
+use Rattle.std.specs.Option.{option_map}
 use Rattle.thr_values.specs.declared.number.Tid.{Tid}
 use Rattle.thr_parts.specs.declared.row.RowId.{RowId}
 use Rattle.thr_parts.specs.declared.row.RowId.TheVariants as row
-use Rattle.thr_parts.specs.declared.row.Place.TheVariants.{Runs, Stands}
 use Rattle.thr_parts.specs.declared.row.Seat.{Seat}
-use Rattle.thr_parts.specs.Tables.{Table, get, put, cut, cut_if, IsCanonical}
-use Rattle.thr_parts.specs.Rows.{Rows, Seated, thread, seat_of, is_same_row, row_at, row_of, is_in_row, is_running, best_of, in_order, standing, numbers_of, number_in, best, best_first, as_ranked, put_in_row, take_out, take_out_if, leave, block_in, block_if, set_rank, make_ready, make_all_ready, Freed, free_row}
+use Rattle.thr_parts.specs.Tables.{Table, cut, IsCanonical}
+use Rattle.thr_parts.specs.Rows.{Rows, thread, seat_of, is_same_row, is_in_row, is_running, in_order, standing, numbers_of, best, best_first, as_ranked, put_in_row, take_out, take_out_if, leave, block_in, block_if, set_rank, make_ready, make_all_ready}
 use Rattle.thr_parts.specs.Dispatch.{dispatch, next_for, with_processor, keeps, seats_kept}
-use Rattle.thr_parts.proofs.TableLaws.{canonical_put, canonical_cut, canonical_put_if, canonical_cut_if, put_cut}
-use Rattle.thr_parts.proofs.EntryLaws.{canonical_filter, filter_put, filter_twice, cut_is}
+use Rattle.thr_parts.proofs.TableLaws.{canonical_put, canonical_put_if, canonical_cut_if}
+use Rattle.thr_parts.proofs.EntryLaws.{filter_put, filter_twice, cut_is}
 use Rattle.thr_parts.proofs.BestLaws.{best_leads, nobody_in_order}
-use Rattle.thr_parts.proofs.RowLaws.{is_in, standing_is, canonical_standing, IsBest, is_best, best_stands, no_number}
+use Rattle.thr_parts.proofs.RowLaws.{is_in, standing_is, canonical_standing, IsBest, is_best, no_number}
 
 -- ---- canonical rows
 
@@ -73,8 +72,8 @@ pub best_then_rest : (rs : Rows) (r : RowId) (t : Tid) → IsCanonical rs.seats 
 best_then_rest rs r t h e =
     let b : (x : ℕ × Seat) × IsBest rs r t x = is_best rs r t e in
     subst (λ (x : Tid). best_first rs r ≡ x ∷ numbers_of (in_order (filter (is_in r) (cut rs.seats x.0)))) b.1.same
-      (ap numbers_of (best_leads (standing rs r) b.0 (canonical_standing rs r h) b.1.best)
-      ∙ ap (λ l. thread b.0.0 ∷ numbers_of (in_order l)) (sym (standing_cut rs r b.0.0)))
+    (ap numbers_of (best_leads (standing rs r) b.0 (canonical_standing rs r h) b.1.best)
+    ∙ ap (λ l. thread b.0.0 ∷ numbers_of (in_order l)) (sym (standing_cut rs r b.0.0)))
 
 pub nobody_first : (rs : Rows) (r : RowId) → best rs r ≡ None → best_first rs r ≡ []
 nobody_first rs r e = ap numbers_of (nobody_in_order (standing rs r) (no_number _ e))

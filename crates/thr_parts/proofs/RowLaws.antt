@@ -1,8 +1,8 @@
 -- Rows: who stands in one, who is its best, and what changes in it.
-use Rattle.std.proofs.Common.{◌≡◌, ℕ, ◌+◌, Bool, true, false, not, ◌&&◌, ◌||◌, cond, eqb, List, [], ◌∷◌, map, Option, Some, None, refl, sym, arith, ◌∙◌, ap, subst}
+use Rattle.std.proofs.Common.{◌≡◌, ℕ, Bool, true, false, cond, eqb, Option, Some, None, refl, sym, arith, ◌∙◌, ap, subst}
 use Rattle.std.proofs.lemmas.Bool.Decides.{nat_tests}
 use Rattle.std.specs.List.{filter}
-use Rattle.std.specs.Option.{option_map, unwrap_or}
+use Rattle.std.specs.Option.{unwrap_or}
 use Rattle.thr_values.specs.declared.number.Tid.{Tid}
 use Rattle.thr_values.specs.declared.number.NameId.{NameId}
 use Rattle.thr_parts.specs.declared.row.RowId.{RowId}
@@ -10,10 +10,10 @@ use Rattle.thr_parts.specs.declared.row.RowId.TheVariants as row
 use Rattle.thr_parts.specs.declared.row.Place.{Place}
 use Rattle.thr_parts.specs.declared.row.Place.TheVariants.{Runs, Stands}
 use Rattle.thr_parts.specs.declared.row.Seat.{Seat}
-use Rattle.thr_parts.specs.Tables.{Table, get, put, cut, IsCanonical}
-use Rattle.thr_parts.specs.Rows.{Rows, Seated, thread, seat_of, is_same_row, place_in, row_in, row_at, row_of, is_before, is_seat_before, before, best_of, in_order, standing, numbers_of, number_in, best, best_first}
+use Rattle.thr_parts.specs.Tables.{get, IsCanonical}
+use Rattle.thr_parts.specs.Rows.{Rows, thread, seat_of, is_same_row, place_in, row_in, row_at, row_of, is_seat_before, before, best_of, standing, number_in, best}
 use Rattle.thr_parts.proofs.EntryLaws.{itself, pass, pass_some, canonical_filter, get_filter}
-use Rattle.thr_parts.proofs.BestLaws.{found, none_before, nobody, best_leads, nobody_in_order}
+use Rattle.thr_parts.proofs.BestLaws.{found, none_before, nobody}
 
 -- ---- rows are told apart
 

@@ -1,5 +1,5 @@
 -- Who stands in a row, and what the best ready thread tells of the others.
-use Rattle.std.proofs.Common.{◌≡◌, ◌↔◌, ℕ, Bool, true, false, not, ◌&&◌, ◌||◌, ◌==◌, nat_lt, cond, eqb, List, [], ◌∷◌, Option, Some, None, refl, sym, ◌∙◌, ap, subst, arith}
+use Rattle.std.proofs.Common.{◌≡◌, ◌↔◌, ℕ, Bool, true, false, ◌||◌, ◌==◌, nat_lt, cond, eqb, [], ◌∷◌, Option, Some, None, refl, sym, ◌∙◌, ap, arith}
 use Rattle.std.proofs.lemmas.Bool.Decides.{nat_tests}
 use Rattle.std.specs.List.{list_any}
 use Rattle.std.specs.Option.{is_some, unwrap_or}
@@ -7,8 +7,8 @@ use Rattle.thr_values.specs.declared.number.Tid.{Tid}
 use Rattle.thr_parts.specs.declared.row.RowId.{RowId}
 use Rattle.thr_parts.specs.declared.row.RowId.TheVariants as row
 use Rattle.thr_parts.specs.declared.row.Seat.{Seat}
-use Rattle.thr_parts.specs.Tables.{Table, get, IsCanonical}
-use Rattle.thr_parts.specs.Rows.{Rows, Seated, thread, seat_of, row_of, is_before, better, best_of, placed, in_order, standing, numbers_of, best, best_first, is_among}
+use Rattle.thr_parts.specs.Tables.{get, IsCanonical}
+use Rattle.thr_parts.specs.Rows.{Rows, Seated, seat_of, row_of, is_before, better, best_of, placed, in_order, standing, numbers_of, best, best_first, is_among}
 use Rattle.thr_parts.specs.Dispatch.{is_outranked, is_matched}
 use Rattle.thr_parts.proofs.EntryLaws.{get_cons, get_empty}
 use Rattle.thr_parts.proofs.RowLaws.{HasSeat, has_seat, seat_of_row, row_of_seat, stands, IsBest, is_best, seat_of_best, no_number}
@@ -77,6 +77,7 @@ among_is rs r t h = (there, back)
     there e =
         let s : (v : Seat) × (get (standing rs r) t.0 ≡ Some v) = some_of (get (standing rs r) t.0) (sym (among_standing rs r t) ∙ e) in
         row_of_seat rs t r s.0 (has_seat rs r t.0 s.0 h s.1)
+
     back : row_of rs t ≡ Some r → is_among t (best_first rs r) ≡ true
     back e =
         let s : (v : Seat) × HasSeat rs t.0 r v = seat_of_row rs t r e in

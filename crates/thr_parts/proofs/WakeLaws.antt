@@ -1,22 +1,18 @@
 -- Whole rows that become ready or leave their waits, related to one thread at a time.
-use Rattle.std.proofs.Common.{◌≡◌, ℕ, ◌+◌, Bool, true, false, not, ◌&&◌, cond, eqb, List, [], ◌∷◌, ◌++◌, map, Option, Some, None, refl, sym, ◌∙◌, ap, subst, ℤ}
+use Rattle.std.proofs.Common.{◌≡◌, ℕ, Bool, true, false, cond, eqb, List, [], ◌∷◌, Option, Some, None, refl, sym, ◌∙◌, ap}
 use Rattle.std.specs.List.{filter}
-use Rattle.std.specs.Option.{option_map, option_and_then, is_some}
+use Rattle.std.specs.Option.{is_some}
 use Rattle.thr_values.specs.declared.number.Tid.{Tid}
 use Rattle.thr_values.specs.declared.number.NameId.{NameId}
 use Rattle.thr_parts.specs.declared.row.RowId.{RowId}
 use Rattle.thr_parts.specs.declared.row.RowId.TheVariants as row
-use Rattle.thr_parts.specs.declared.row.Seat.{Seat}
-use Rattle.thr_parts.specs.declared.wait.Wait.{Wait}
-use Rattle.thr_parts.specs.Tables.{Table, get, put, cut, cut_if, IsCanonical}
-use Rattle.thr_parts.specs.Rows.{Rows, Seated, thread, seat_of, is_same_row, is_in_row, best_of, in_order, standing, numbers_of, number_in, best, best_first, put_in_row, take_out, take_out_if, make_ready, make_all_ready, Freed, free_row}
-use Rattle.thr_parts.specs.Mutexes.{Locks, Regained, regain, mutex_at, is_free}
-use Rattle.thr_parts.specs.Conditions.{Conds, wait_of, time_of}
-use Rattle.thr_parts.specs.Waking.{LeftWait, pull_out, some_if, mutex_with, without_wait, waits_without, has_come, is_due, due, due_first, Woken, resume, woken_first, wake_all, wake_then}
-use Rattle.thr_parts.proofs.TableLaws.{get_cut, canonical_cut, canonical_cut_if, canonical_put, same_table}
-use Rattle.thr_parts.proofs.EntryLaws.{itself, pass, pass_some, canonical_filter, get_filter, filter_put, filter_twice, filter_alike, cut_is}
-use Rattle.thr_parts.proofs.BestLaws.{found, best_leads, nobody_in_order}
-use Rattle.thr_parts.proofs.RowLaws.{is_in, no_number}
+use Rattle.thr_parts.specs.Tables.{Table, get, cut, cut_if, IsCanonical}
+use Rattle.thr_parts.specs.Rows.{Rows, seat_of, is_same_row, is_in_row, in_order, standing, numbers_of, best, best_first, take_out, take_out_if, make_ready, make_all_ready, Freed, free_row}
+use Rattle.thr_parts.specs.Mutexes.{Locks, mutex_at, is_free}
+use Rattle.thr_parts.specs.Conditions.{Conds, wait_of}
+use Rattle.thr_parts.specs.Waking.{pull_out, some_if, mutex_with, resume, wake_all, wake_then}
+use Rattle.thr_parts.proofs.TableLaws.{get_cut, canonical_cut, same_table}
+use Rattle.thr_parts.proofs.RowLaws.{is_in}
 use Rattle.thr_parts.proofs.MoveLaws.{best_then_rest, nobody_first, standing_put, canonical_take_out, canonical_take_out_if}
 
 -- ---- a thread that is put anywhere else
@@ -48,7 +44,7 @@ rest_ready : (rank : Tid → ℕ) (rs : Rows) (r : RowId) (t : Tid) → IsCanoni
     → best_first (make_ready rank (take_out rs t).rows t) r ≡ numbers_of (in_order (filter (is_in r) (cut rs.seats t.0)))
 rest_ready rank rs r t h apart =
     ap (λ l. numbers_of (in_order l)) (standing_put (take_out rs t).rows r row.Ready t (rank t) (canonical_take_out rs t h) apart
-      ∙ ap (filter (is_in r)) (cut_if_cut (is_in_row (seat_of rs t)) rs.seats t.0 h))
+    ∙ ap (filter (is_in r)) (cut_if_cut (is_in_row (seat_of rs t)) rs.seats t.0 h))
 
 pub free_step : (rank : Tid → ℕ) (rs : Rows) (r : RowId) (t : Tid) → IsCanonical rs.seats → is_same_row r row.Ready ≡ false → best rs r ≡ Some t
     → free_row rank rs r ≡ record {
@@ -58,7 +54,7 @@ pub free_step : (rank : Tid → ℕ) (rs : Rows) (r : RowId) (t : Tid) → IsCan
 unfolding make_all_ready
 free_step rank rs r t h apart e =
     ap (λ (l : List Tid). let f : Freed = record { rows = make_all_ready rank rs l; woken = l } in f)
-      (best_then_rest rs r t h e ∙ ap (λ l. t ∷ l) (sym (rest_ready rank rs r t h apart)))
+    (best_then_rest rs r t h e ∙ ap (λ l. t ∷ l) (sym (rest_ready rank rs r t h apart)))
 
 -- ---- waits that end
 
@@ -81,7 +77,7 @@ rest_resumed : (rank : Tid → ℕ) (cs : Conds) (ls : Locks) (rs : Rows) (t : T
     → best_first (resume rank ls (pull_out cs rs t).rows t m).rows r ≡ numbers_of (in_order (filter (is_in r) (cut rs.seats t.0)))
 rest_resumed rank cs ls rs t m r apart h =
     ap (λ l. numbers_of (in_order l)) (resumed rank ls (pull_out cs rs t).rows t m r apart (canonical_take_out_if rs (some_if (is_some (wait_of cs t)) t) h)
-      ∙ ap (filter (is_in r)) (out_cut rs (is_some (wait_of cs t)) t h))
+    ∙ ap (filter (is_in r)) (out_cut rs (is_some (wait_of cs t)) t h))
 
 abbrev pub WakesFirst : (Tid → ℕ) → Conds → Locks → Rows → Tid → (Conds → Rows → List Tid) → Type 0
 WakesFirst rank cs ls rs t others = wake_all rank cs ls rs (others cs rs) ≡ wake_then rank cs ls rs t others

@@ -9,8 +9,8 @@ use Rattle.thr_values.specs.declared.reply.Reply.TheVariants as reply
 use Rattle.thr_parts.specs.declared.row.RowId.TheVariants as row
 use Rattle.thr_parts.specs.declared.wait.Wait.{Wait}
 use Rattle.thr_parts.specs.declared.wait.Wait.TheVariants.{Cond, Delay}
-use Rattle.thr_parts.specs.Tables.{Table, none, get, has, put, put_if, cut_if, keep_if}
-use Rattle.thr_parts.specs.Replies.{is_done, is_blocks, making_reply, made_reply}
+use Rattle.thr_parts.specs.Tables.{Table, none, get, has, put_if, cut_if, keep_if}
+use Rattle.thr_parts.specs.Replies.{is_done, is_blocks, making_reply}
 use Rattle.thr_parts.specs.Times.{is_no_interval}
 use Rattle.thr_parts.specs.Rows.{Rows, best, block_if, take_out_if}
 use Rattle.thr_parts.specs.Mutexes.{Locks, owner, mutex_at, with_mutex, is_held_by, is_last, as_given_up}

@@ -1,5 +1,5 @@
 -- Threads that take processors, keep them and give them up (docs/machine.md, "Dispatch and slices").
-use Rattle.std.specs.Prelude.{ℕ, ◌+◌, ◌-◌, Bool, true, false, not, ◌&&◌, ◌||◌, ◌==◌, nat_lt, if◌then◌else◌, is_none, List, [], ◌∷◌, Option, Some, None}
+use Rattle.std.specs.Prelude.{ℕ, ◌+◌, ◌-◌, Bool, true, false, not, ◌&&◌, ◌||◌, ◌==◌, nat_lt, if◌then◌else◌, is_none, [], ◌∷◌, Option, Some, None}
 use Rattle.std.specs.List.{filter, list_any}
 use Rattle.thr_values.specs.declared.number.Tid.{Tid}
 use Rattle.thr_parts.specs.declared.row.RowId.TheVariants as row

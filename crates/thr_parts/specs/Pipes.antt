@@ -1,7 +1,7 @@
 -- Pipes (docs/machine.md, "Pipes").
 use Rattle.std.specs.Prelude.{ℕ, ◌==◌, nat_lt, Bool, true, false, not, ◌&&◌, ◌||◌, if◌then◌else◌, is_some, is_none, ℤ, List, [], ◌∷◌, ◌++◌, length, Option, Some, None}
 use Rattle.std.specs.List.{filter}
-use Rattle.std.specs.Option.{option_map, option_and_then}
+use Rattle.std.specs.Option.{option_and_then}
 use Rattle.thr_values.specs.declared.number.Tid.{Tid}
 use Rattle.thr_values.specs.declared.number.NameId.{NameId}
 use Rattle.thr_values.specs.declared.reply.Reply.{Reply}
@@ -11,7 +11,7 @@ use Rattle.thr_syntax.specs.declared.tree.Item.TheVariants as item
 use Rattle.thr_parts.specs.declared.pipe.Writing.{Writing}
 use Rattle.thr_parts.specs.declared.row.RowId.{RowId}
 use Rattle.thr_parts.specs.declared.row.RowId.TheVariants as row
-use Rattle.thr_parts.specs.Tables.{Table, none, get, at, put, put_if, cut, cut_if, keep_if}
+use Rattle.thr_parts.specs.Tables.{Table, none, get, at, put, put_if, cut, keep_if}
 use Rattle.thr_parts.specs.Replies.{is_done, is_blocks, is_value}
 use Rattle.thr_parts.specs.Rows.{Rows, best, best_first, row_of, block_if, take_out_if, make_all_ready}
 

@@ -1,10 +1,8 @@
 -- Small states for the worked examples.
-use Rattle.std.specs.Prelude.{ℕ, zero, suc, ◌+◌, Bool, true, false, ℤ, pos, List, [], ◌∷◌, map, Option, Some, None, ⊤}
-use Rattle.thr_values.specs.declared.number.Tid.{Tid}
+use Rattle.std.specs.Prelude.{ℕ, zero, suc, ◌+◌, Bool, true, ℤ, pos, List, [], ◌∷◌, map, Option, Some, None}
 use Rattle.thr_values.specs.declared.number.NameId.{NameId}
 use Rattle.thr_values.specs.declared.reply.Kind.{Kind}
 use Rattle.thr_values.specs.declared.scheduling.Policy.{Policy}
-use Rattle.thr_parts.specs.declared.mutex.Held.{Held}
 use Rattle.thr_parts.specs.declared.mutex.Mutex.{Mutex}
 use Rattle.thr_parts.specs.declared.row.RowId.{RowId}
 use Rattle.thr_parts.specs.declared.row.Place.TheVariants.{Runs, Stands}

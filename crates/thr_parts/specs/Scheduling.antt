@@ -1,5 +1,5 @@
 -- Policies and priorities of threads, and attribute cells (docs/machine.md, "Thread records" and "Attribute cells").
-use Rattle.std.specs.Prelude.{ℕ, ◌==◌, nat_le, Bool, true, false, not, ◌&&◌, ℤ, pos, negsuc, Option, Some, None}
+use Rattle.std.specs.Prelude.{ℕ, nat_le, Bool, true, false, not, ◌&&◌, ℤ, pos, negsuc, Option, Some, None}
 use Rattle.std.specs.Option.{option_map}
 use Rattle.thr_values.specs.declared.number.NameId.{NameId}
 use Rattle.thr_values.specs.declared.reply.Reply.{Reply}

@@ -1,5 +1,5 @@
 -- Records of threads (docs/machine.md, "Thread records").
-use Rattle.std.specs.Prelude.{ℕ, ◌+◌, ◌==◌, nat_lt, Bool, true, false, not, is_some, ◌&&◌, if◌then◌else◌, ℤ, pos, negsuc, List, [], ◌∷◌, length, Option, Some, None}
+use Rattle.std.specs.Prelude.{ℕ, ◌+◌, ◌==◌, nat_lt, Bool, true, false, not, is_some, ◌&&◌, if◌then◌else◌, ℤ, pos, negsuc, length, Option, Some, None}
 use Rattle.std.specs.Option.{option_map}
 use Rattle.thr_values.specs.Ranks.{rank_of}
 use Rattle.thr_values.specs.declared.number.Tid.{Tid}

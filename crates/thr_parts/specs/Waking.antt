@@ -9,7 +9,7 @@ use Rattle.thr_parts.specs.declared.row.RowId.TheVariants as row
 use Rattle.thr_parts.specs.declared.wait.Wait.{Wait}
 use Rattle.thr_parts.specs.Tables.{Table, get, has, cut, keep_if}
 use Rattle.thr_parts.specs.Replies.{made_reply}
-use Rattle.thr_parts.specs.Rows.{Rows, Seated, best, best_first, best_of, in_order, numbers_of, number_in, take_out, take_out_if, make_ready}
+use Rattle.thr_parts.specs.Rows.{Rows, Seated, best, best_first, best_of, in_order, numbers_of, number_in, take_out_if, make_ready}
 use Rattle.thr_parts.specs.Mutexes.{Locks, Regained, regain}
 use Rattle.thr_parts.specs.Conditions.{Conds, wait_of, mutex_of, time_of}
 
