@@ -33,8 +33,13 @@ running_at p rank slice = record { rank = rank; place = Runs p slice }
 abbrev pub standing_in : RowId → ℕ → ℕ → Seat
 standing_in r rank arrival = record { rank = rank; place = Stands r arrival }
 
-abbrev pub rows : Table Seat → ℕ → Rows
-rows seats next = record { seats = seats; next_arrival = next }
+-- The next arrival, and the seats.
+abbrev pub rows : ℕ → Table Seat → Rows
+rows next seats = record { seats = seats; next_arrival = next }
+
+-- Thread 1 runs, and the next arrival is 3.
+abbrev pub alone : Rows
+alone = rows 3 ((1, running_at 0 116 8) ∷ [])
 
 -- ---- threads
 

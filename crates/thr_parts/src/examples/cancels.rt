@@ -60,43 +60,76 @@ pub fn deliverable_cancels()
 /// The rows whose waits are points.
 #[tactic(auto, unfolding(crate::specs::Computing::parts_words))]
 pub fn waits_at_points()
-    ensures cond { waits_at_point (rows ((1, standing_in (row.Cond (name 20)) 116 0) ∷ []) 1) (thread 1) ≡ true }
-    ensures join { waits_at_point (rows ((1, standing_in (row.Join (thread 2)) 116 0) ∷ []) 1) (thread 1) ≡ true }
-    ensures time { waits_at_point (rows ((1, standing_in row.Time 116 0) ∷ []) 1) (thread 1) ≡ true }
-    ensures reader { waits_at_point (rows ((1, standing_in (row.Reader (name 40)) 116 0) ∷ []) 1) (thread 1) ≡ true }
-    ensures writer { waits_at_point (rows ((1, standing_in (row.Writer (name 40)) 116 0) ∷ []) 1) (thread 1) ≡ true }
-    ensures mutex { waits_at_point (rows ((1, standing_in (row.Mutex (name 10)) 116 0) ∷ []) 1) (thread 1) ≡ false }
-    ensures global { waits_at_point (rows ((1, standing_in row.Global 116 0) ∷ []) 1) (thread 1) ≡ false }
-    ensures once { waits_at_point (rows ((1, standing_in (row.Once (name 50)) 116 0) ∷ []) 1) (thread 1) ≡ false }
-    ensures ready { waits_at_point (rows ((1, standing_in row.Ready 116 0) ∷ []) 1) (thread 1) ≡ false }
-    ensures runs { waits_at_point (rows ((1, running_at 0 116 8) ∷ []) 1) (thread 1) ≡ false }
+    ensures cond { waits_at_point (rows 1 ((1, standing_in (row.Cond (name 20)) 116 0) ∷ [])) (thread 1) ≡ true }
+    ensures join { waits_at_point (rows 1 ((1, standing_in (row.Join (thread 2)) 116 0) ∷ [])) (thread 1) ≡ true }
+    ensures time { waits_at_point (rows 1 ((1, standing_in row.Time 116 0) ∷ [])) (thread 1) ≡ true }
+    ensures reader { waits_at_point (rows 1 ((1, standing_in (row.Reader (name 40)) 116 0) ∷ [])) (thread 1) ≡ true }
+    ensures writer { waits_at_point (rows 1 ((1, standing_in (row.Writer (name 40)) 116 0) ∷ [])) (thread 1) ≡ true }
+    ensures mutex { waits_at_point (rows 1 ((1, standing_in (row.Mutex (name 10)) 116 0) ∷ [])) (thread 1) ≡ false }
+    ensures global { waits_at_point (rows 1 ((1, standing_in row.Global 116 0) ∷ [])) (thread 1) ≡ false }
+    ensures once { waits_at_point (rows 1 ((1, standing_in (row.Once (name 50)) 116 0) ∷ [])) (thread 1) ≡ false }
+    ensures ready { waits_at_point (rows 1 ((1, standing_in row.Ready 116 0) ∷ [])) (thread 1) ≡ false }
+    ensures runs { waits_at_point (rows 1 ((1, running_at 0 116 8) ∷ [])) (thread 1) ≡ false }
 {}
 
 /// A thread that a cancel wakes is ready, but out of a condition it gets its mutex first or waits for it.
 #[tactic(auto, unfolding(crate::specs::Computing::parts_words))]
 pub fn cancelled_waits()
-    ensures cond_free { cancel_wait (λ _. 116) (conds ((2, Cond (name 20) (name 10) None) ∷ [])) no_pipes (locks ((10, free Fast) ∷ [])) (rows ((1, running_at 0 116 8) ∷ (2, standing_in (row.Cond (name 20)) 116 3) ∷ []) 4) (thread 2)
+    ensures cond_free { cancel_wait (λ _. 116) (conds ((2, Cond (name 20) (name 10) None) ∷ [])) no_pipes
+        (locks ((10, free Fast) ∷ []))
+        (rows 4 ((1, running_at 0 116 8) ∷ (2, standing_in (row.Cond (name 20)) 116 3) ∷ [])) (thread 2)
         ≡ record {
           conds = conds [];
           pipes = no_pipes;
           locks = locks ((10, held Fast 2 1) ∷ []);
-          rows = rows ((1, running_at 0 116 8) ∷ (2, standing_in row.Ready 116 4) ∷ []) 5;
+          rows = rows 5 ((1, running_at 0 116 8) ∷ (2, standing_in row.Ready 116 4) ∷ []);
           gifts = (thread 2, name 10) ∷ [];
         } }
-    ensures cond_held { cancel_wait (λ _. 116) (conds ((2, Cond (name 20) (name 10) (Some (pos 9))) ∷ [])) no_pipes (locks ((10, held Fast 1 1) ∷ [])) (rows ((1, running_at 0 116 8) ∷ (2, standing_in (row.Cond (name 20)) 116 3) ∷ []) 4) (thread 2)
+    ensures cond_held { cancel_wait (λ _. 116) (conds ((2, Cond (name 20) (name 10) (Some (pos 9))) ∷ [])) no_pipes
+        (locks ((10, held Fast 1 1) ∷ []))
+        (rows 4 ((1, running_at 0 116 8) ∷ (2, standing_in (row.Cond (name 20)) 116 3) ∷ [])) (thread 2)
         ≡ record {
           conds = conds [];
           pipes = no_pipes;
           locks = locks ((10, held Fast 1 1) ∷ []);
-          rows = rows ((1, running_at 0 116 8) ∷ (2, standing_in (row.Mutex (name 10)) 116 4) ∷ []) 5;
+          rows = rows 5 ((1, running_at 0 116 8) ∷ (2, standing_in (row.Mutex (name 10)) 116 4) ∷ []);
           gifts = [];
         } }
-    ensures delay { cancel_wait (λ _. 116) (conds ((2, Delay (pos 9)) ∷ [])) no_pipes no_locks (rows ((2, standing_in row.Time 116 3) ∷ []) 4) (thread 2)
-        ≡ record { conds = conds []; pipes = no_pipes; locks = no_locks; rows = rows ((2, standing_in row.Ready 116 4) ∷ []) 5; gifts = [] } }
-    ensures join { cancel_wait (λ _. 116) no_conds no_pipes no_locks (rows ((2, standing_in (row.Join (thread 1)) 116 3) ∷ []) 4) (thread 2)
-        ≡ record { conds = no_conds; pipes = no_pipes; locks = no_locks; rows = rows ((2, standing_in row.Ready 116 4) ∷ []) 5; gifts = [] } }
-    ensures reader { cancel_wait (λ _. 116) no_conds (pipes 4 true [] none) no_locks (rows ((2, standing_in (row.Reader (name 40)) 116 3) ∷ []) 4) (thread 2)
-        ≡ record { conds = no_conds; pipes = pipes 4 true [] none; locks = no_locks; rows = rows ((2, standing_in row.Ready 116 4) ∷ []) 5; gifts = [] } }
-    ensures writer { cancel_wait (λ _. 116) no_conds (pipes 1 true (pos 3 ∷ []) ((2, record { pipe = name 40; item = pos 5 }) ∷ [])) no_locks (rows ((2, standing_in (row.Writer (name 40)) 116 3) ∷ []) 4) (thread 2)
-        ≡ record { conds = no_conds; pipes = pipes 1 true (pos 3 ∷ []) none; locks = no_locks; rows = rows ((2, standing_in row.Ready 116 4) ∷ []) 5; gifts = [] } }
+    ensures delay { cancel_wait (λ _. 116) (conds ((2, Delay (pos 9)) ∷ [])) no_pipes no_locks
+        (rows 4 ((2, standing_in row.Time 116 3) ∷ [])) (thread 2)
+        ≡ record {
+          conds = conds [];
+          pipes = no_pipes;
+          locks = no_locks;
+          rows = rows 5 ((2, standing_in row.Ready 116 4) ∷ []);
+          gifts = [];
+        } }
+    ensures join { cancel_wait (λ _. 116) no_conds no_pipes no_locks
+        (rows 4 ((2, standing_in (row.Join (thread 1)) 116 3) ∷ [])) (thread 2)
+        ≡ record {
+          conds = no_conds;
+          pipes = no_pipes;
+          locks = no_locks;
+          rows = rows 5 ((2, standing_in row.Ready 116 4) ∷ []);
+          gifts = [];
+        } }
+    ensures reader { cancel_wait (λ _. 116) no_conds (pipes 4 true [] none) no_locks
+        (rows 4 ((2, standing_in (row.Reader (name 40)) 116 3) ∷ [])) (thread 2)
+        ≡ record {
+          conds = no_conds;
+          pipes = pipes 4 true [] none;
+          locks = no_locks;
+          rows = rows 5 ((2, standing_in row.Ready 116 4) ∷ []);
+          gifts = [];
+        } }
+    ensures writer { cancel_wait (λ _. 116) no_conds
+        (pipes 1 true (pos 3 ∷ []) ((2, record { pipe = name 40; item = pos 5 }) ∷ [])) no_locks
+        (rows 4 ((2, standing_in (row.Writer (name 40)) 116 3) ∷ [])) (thread 2)
+        ≡ record {
+          conds = no_conds;
+          pipes = pipes 1 true (pos 3 ∷ []) none;
+          locks = no_locks;
+          rows = rows 5 ((2, standing_in row.Ready 116 4) ∷ []);
+          gifts = [];
+        } }
 {}

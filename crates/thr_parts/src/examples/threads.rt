@@ -7,7 +7,7 @@ ghost use Rattle.thr_parts.specs.Tables.{none};
 ghost use Rattle.thr_parts.specs.Rows.{thread};
 ghost use Rattle.thr_parts.specs.Threads.{new_attr, new_thread, first_threads, rank_at, create, join, detach, set_ended};
 ghost use Rattle.thr_parts.specs.Scheduling.{setprio, getprio, setscheduler, getscheduler, attr_create, attr_delete, attr_setsched, attr_setprio, attr_setinherit, attr_setstack};
-ghost use Rattle.thr_parts.specs.Samples.{name, threads, with_cell, cell, ended_thread, detached_thread, many_records};
+ghost use Rattle.thr_parts.specs.Samples.{alone, name, threads, with_cell, cell, ended_thread, detached_thread, many_records};
 
 /// At the opening there is the first thread alone.
 #[tactic(auto, unfolding(crate::specs::Computing::parts_words))]
@@ -23,7 +23,8 @@ pub fn attribute_cells()
         ≡ record { reply = reply.Done; threads = with_cell (cell Fg 16 true 256) } }
     ensures create_made { attr_create (with_cell (cell Rr 3 false 17)) (name 30)
         ≡ record { reply = reply.Ebusy; threads = with_cell (cell Rr 3 false 17) } }
-    ensures delete { attr_delete (with_cell new_attr) (name 30) ≡ record { reply = reply.Done; threads = first_threads } }
+    ensures delete { attr_delete (with_cell new_attr) (name 30)
+        ≡ record { reply = reply.Done; threads = first_threads } }
     ensures delete_unmade { attr_delete (with_cell new_attr) (name 31)
         ≡ record { reply = reply.Einval; threads = with_cell new_attr } }
     ensures sched { attr_setsched (with_cell new_attr) (name 30) Fifo
@@ -72,7 +73,8 @@ pub fn creations()
         ≡ record { reply = reply.Einval; threads = with_cell new_attr } }
     ensures full { create (threads (many_records 1024 1 Fg) 1025) (thread 1) None
         ≡ record { reply = reply.Eagain; threads = threads (many_records 1024 1 Fg) 1025 } }
-    ensures full_unmade { (create (threads (many_records 1024 1 Fg) 1025) (thread 1) (Some (name 30))).reply ≡ reply.Einval }
+    ensures full_unmade { (create (threads (many_records 1024 1 Fg) 1025) (thread 1) (Some (name 30))).reply
+        ≡ reply.Einval }
     ensures not_full { (create (threads (many_records 1023 1 Fg) 4000) (thread 1) None).reply ≡ reply.Value (pos 4000) }
 {}
 
@@ -80,13 +82,17 @@ pub fn creations()
 #[tactic(auto, unfolding(crate::specs::Computing::parts_words))]
 pub fn joins()
     ensures none { join (threads ((1, new_thread (thread 1) Fg 16 256) ∷ []) 5) (thread 1) (pos 2) ≡ reply.Esrch }
-    ensures negative { join (threads ((1, new_thread (thread 1) Fg 16 256) ∷ []) 5) (thread 1) (negsuc 0) ≡ reply.Esrch }
+    ensures negative { join (threads ((1, new_thread (thread 1) Fg 16 256) ∷ []) 5) (thread 1) (negsuc 0)
+        ≡ reply.Esrch }
     ensures itself { join (threads ((1, detached_thread 1) ∷ []) 5) (thread 1) (pos 1) ≡ reply.Edeadlk }
-    ensures detached { join (threads ((1, new_thread (thread 1) Fg 16 256) ∷ (2, detached_thread 2) ∷ []) 5) (thread 1) (pos 2)
+    ensures detached { join (threads ((1, new_thread (thread 1) Fg 16 256) ∷ (2, detached_thread 2) ∷ []) 5) (thread 1)
+        (pos 2)
         ≡ reply.Einval }
-    ensures ended { join (threads ((1, new_thread (thread 1) Fg 16 256) ∷ (2, ended_thread 2 (negsuc 4)) ∷ []) 5) (thread 1) (pos 2)
+    ensures ended { join (threads ((1, new_thread (thread 1) Fg 16 256) ∷ (2, ended_thread 2 (negsuc 4)) ∷ []) 5)
+        (thread 1) (pos 2)
         ≡ reply.Value (negsuc 4) }
-    ensures live { join (threads ((1, new_thread (thread 1) Fg 16 256) ∷ (2, new_thread (thread 2) Fg 16 256) ∷ []) 5) (thread 1) (pos 2)
+    ensures live { join (threads ((1, new_thread (thread 1) Fg 16 256) ∷ (2, new_thread (thread 2) Fg 16 256) ∷ []) 5)
+        (thread 1) (pos 2)
         ≡ reply.Blocks }
     ensures detach_none { detach (threads ((2, new_thread (thread 2) Fg 16 256) ∷ []) 5) (pos 3)
         ≡ record { reply = reply.Esrch; threads = threads ((2, new_thread (thread 2) Fg 16 256) ∷ []) 5 } }
@@ -98,7 +104,8 @@ pub fn joins()
         ≡ record { reply = reply.Done; threads = threads ((1, detached_thread 1) ∷ []) 5 } }
     ensures ends { set_ended (threads ((2, new_thread (thread 2) Fg 16 256) ∷ []) 5) (thread 2) (pos 9)
         ≡ threads ((2, ended_thread 2 (pos 9)) ∷ []) 5 }
-    ensures ends_detached { set_ended (threads ((1, detached_thread 1) ∷ (2, detached_thread 2) ∷ []) 5) (thread 2) (pos 9)
+    ensures ends_detached { set_ended (threads ((1, detached_thread 1) ∷ (2, detached_thread 2) ∷ []) 5) (thread 2)
+        (pos 9)
         ≡ threads ((1, detached_thread 1) ∷ []) 5 }
 {}
 
@@ -107,22 +114,29 @@ pub fn joins()
 pub fn policies_and_priorities()
     ensures prio { setprio (threads ((2, new_thread (thread 2) Rr 16 256) ∷ []) 5) (pos 2) (pos 31)
         ≡ record { reply = reply.Value (pos 16); threads = threads ((2, new_thread (thread 2) Rr 31 256) ∷ []) 5 } }
-    ensures prio_none { (setprio (threads ((2, new_thread (thread 2) Rr 16 256) ∷ []) 5) (pos 3) (pos 99)).reply ≡ reply.Esrch }
+    ensures prio_none { (setprio (threads ((2, new_thread (thread 2) Rr 16 256) ∷ []) 5) (pos 3) (pos 99)).reply
+        ≡ reply.Esrch }
     ensures prio_above { setprio (threads ((2, new_thread (thread 2) Rr 16 256) ∷ []) 5) (pos 2) (pos 32)
         ≡ record { reply = reply.Einval; threads = threads ((2, new_thread (thread 2) Rr 16 256) ∷ []) 5 } }
-    ensures prio_below { (setprio (threads ((2, new_thread (thread 2) Rr 16 256) ∷ []) 5) (pos 2) (negsuc 0)).reply ≡ reply.Einval }
+    ensures prio_below { (setprio (threads ((2, new_thread (thread 2) Rr 16 256) ∷ []) 5) (pos 2) (negsuc 0)).reply
+        ≡ reply.Einval }
     ensures prio_ended { setprio (threads ((2, ended_thread 2 (pos 7)) ∷ []) 5) (pos 2) (pos 16)
         ≡ record { reply = reply.Value (pos 16); threads = threads ((2, ended_thread 2 (pos 7)) ∷ []) 5 } }
     ensures read_prio { getprio (threads ((2, new_thread (thread 2) Rr 16 256) ∷ []) 5) (pos 2) ≡ reply.Value (pos 16) }
     ensures read_prio_none { getprio (threads ((2, new_thread (thread 2) Rr 16 256) ∷ []) 5) (pos 1) ≡ reply.Esrch }
     ensures scheduler { setscheduler (threads ((2, new_thread (thread 2) Rr 16 256) ∷ []) 5) (pos 2) Bg (pos 0)
         ≡ record { reply = reply.Value (pos 1); threads = threads ((2, new_thread (thread 2) Bg 0 256) ∷ []) 5 } }
-    ensures scheduler_none { (setscheduler (threads ((2, new_thread (thread 2) Rr 16 256) ∷ []) 5) (pos 3) Bg (pos 99)).reply
+    ensures scheduler_none { (setscheduler (threads ((2, new_thread (thread 2) Rr 16 256) ∷ []) 5) (pos 3) Bg
+        (pos 99)).reply
         ≡ reply.Esrch }
     ensures scheduler_wrong { setscheduler (threads ((2, new_thread (thread 2) Rr 16 256) ∷ []) 5) (pos 2) Bg (pos 32)
         ≡ record { reply = reply.Einval; threads = threads ((2, new_thread (thread 2) Rr 16 256) ∷ []) 5 } }
-    ensures read_scheduler { getscheduler (threads ((2, new_thread (thread 2) Bg 16 256) ∷ []) 5) (pos 2) ≡ reply.Value (pos 3) }
-    ensures read_fifo { getscheduler (threads ((2, new_thread (thread 2) Fifo 16 256) ∷ []) 5) (pos 2) ≡ reply.Value (pos 0) }
-    ensures read_fg { getscheduler (threads ((2, new_thread (thread 2) Fg 16 256) ∷ []) 5) (pos 2) ≡ reply.Value (pos 2) }
-    ensures read_scheduler_none { getscheduler (threads ((2, new_thread (thread 2) Rr 16 256) ∷ []) 5) (pos 1) ≡ reply.Esrch }
+    ensures read_scheduler { getscheduler (threads ((2, new_thread (thread 2) Bg 16 256) ∷ []) 5) (pos 2)
+        ≡ reply.Value (pos 3) }
+    ensures read_fifo { getscheduler (threads ((2, new_thread (thread 2) Fifo 16 256) ∷ []) 5) (pos 2)
+        ≡ reply.Value (pos 0) }
+    ensures read_fg { getscheduler (threads ((2, new_thread (thread 2) Fg 16 256) ∷ []) 5) (pos 2)
+        ≡ reply.Value (pos 2) }
+    ensures read_scheduler_none { getscheduler (threads ((2, new_thread (thread 2) Rr 16 256) ∷ []) 5) (pos 1)
+        ≡ reply.Esrch }
 {}
