@@ -8,7 +8,7 @@ use Rattle.thr_parts.specs.declared.row.RowId.TheVariants as row
 use Rattle.thr_parts.specs.declared.row.Seat.{Seat}
 use Rattle.thr_parts.specs.Tables.{Table, cut, IsCanonical}
 use Rattle.thr_parts.specs.Rows.{Rows, thread, seat_of, is_same_row, is_in_row, is_running, in_order, standing, numbers_of, best, best_first, as_ranked, put_in_row, take_out, take_out_if, leave, block_in, block_if, set_rank, make_ready, make_all_ready}
-use Rattle.thr_parts.specs.Dispatch.{dispatch, next_for, with_processor, keeps, seats_kept}
+use Rattle.thr_parts.specs.Dispatch.{dispatch, next_for, with_processor, keeps, as_kept}
 use Rattle.thr_parts.proofs.TableLaws.{canonical_put, canonical_put_if, canonical_cut_if}
 use Rattle.thr_parts.proofs.EntryLaws.{filter_put, filter_twice, cut_is}
 use Rattle.thr_parts.proofs.BestLaws.{best_leads, nobody_in_order}
@@ -46,12 +46,8 @@ with_processor_canonical (Some e) seats p h = canonical_put seats e.0 _ h
 pub canonical_dispatch : (rs : Rows) (p : ℕ) → IsCanonical rs.seats → IsCanonical (dispatch rs p).rows.seats
 canonical_dispatch rs p h = with_processor_canonical (next_for rs p) rs.seats p h
 
-seats_kept_canonical : (rs : Rows) (fifo : Bool) (t : ℕ) (o : Option Seat) → IsCanonical rs.seats → IsCanonical (seats_kept rs fifo t o)
-seats_kept_canonical rs fifo t None h = h
-seats_kept_canonical rs fifo t (Some s) h = canonical_put rs.seats t _ h
-
 pub canonical_keeps : (rs : Rows) (t : Tid) (fifo : Bool) → IsCanonical rs.seats → IsCanonical (keeps rs t fifo).rows.seats
-canonical_keeps rs t fifo h = seats_kept_canonical rs fifo t.0 (seat_of rs t) h
+canonical_keeps rs t fifo h = canonical_put_if rs.seats t.0 (option_map (as_kept rs fifo) (seat_of rs t)) h
 
 pub canonical_make_all_ready : (rank : Tid → ℕ) (rs : Rows) (ts : List Tid) → IsCanonical rs.seats → IsCanonical (make_all_ready rank rs ts).seats
 unfolding make_all_ready

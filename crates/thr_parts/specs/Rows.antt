@@ -10,22 +10,27 @@ use Rattle.thr_parts.specs.declared.row.Place.TheVariants.{Runs, Stands}
 use Rattle.thr_parts.specs.declared.row.Seat.{Seat}
 use Rattle.thr_parts.specs.Tables.{Table, none, get, put, put_if, cut_if}
 
--- The threads that stand in a row or run, by their numbers, and the next arrival number (docs/machine.md, "Rows").
+-- The seats of the threads that stand in a row or run, by their numbers, and the next arrival number (docs/machine.md,
+-- "Rows").
 pub record Rows : Type 0 where
   pub seats : Table Seat
   pub next_arrival : ℕ
 
+-- No thread stands in a row or runs.
 abbrev pub no_rows : Rows
 no_rows = record { seats = none; next_arrival = 0 }
 
+-- The thread of a number.
 abbrev pub thread : ℕ → Tid
 thread n = record { 0 = n }
 
+-- The seat of a thread, unless it stands nowhere.
 abbrev pub seat_of : Rows → Tid → Option Seat
 seat_of rs t = get rs.seats t.0
 
 -- ---- rows
 
+-- Two rows are the same.
 abbrev pub is_same_row : RowId → RowId → Bool
 is_same_row row.Ready row.Ready = true
 is_same_row (row.Mutex a) (row.Mutex b) = a.0 == b.0
@@ -38,40 +43,51 @@ is_same_row (row.Writer a) (row.Writer b) = a.0 == b.0
 is_same_row row.Time row.Time = true
 is_same_row _ _ = false
 
+-- The place is in the row.
 abbrev pub place_in : RowId → Place → Bool
 place_in r (Runs p slice) = false
 place_in r (Stands s arrival) = is_same_row r s
 
+-- The row of a place, unless that is a processor.
 abbrev pub row_in : Place → Option RowId
 row_in (Runs p slice) = None
 row_in (Stands r arrival) = Some r
 
+-- The row of a seat that is there.
 abbrev pub row_at : Option Seat → Option RowId
 row_at None = None
 row_at (Some s) = row_in s.place
 
--- The row in which a thread stands, unless it runs or stands nowhere.
+-- The row in which a thread stands, unless it runs or stands nowhere (docs/machine.md, "Rows").
 abbrev pub row_of : Rows → Tid → Option RowId
 row_of rs t = row_at (seat_of rs t)
 
+-- The seat that is there is in a row.
 abbrev pub is_in_row : Option Seat → Bool
 is_in_row s = is_some (row_at s)
 
--- ---- the best of several threads (docs/machine.md, "Ranks and arrivals")
+-- The seat that is there is on a processor.
+abbrev pub is_running : Option Seat → Bool
+is_running None = false
+is_running (Some s) = is_none (row_in s.place)
 
+-- ---- the best of several threads
+
+-- The arrival of a thread that stands in a row.
 abbrev pub arrival_in : Place → ℕ
 arrival_in (Runs p slice) = 0
 arrival_in (Stands r arrival) = arrival
 
--- The one has greater rank, or equal rank and lesser arrival.
+-- The one has greater rank, or equal rank and lesser arrival (docs/machine.md, "Ranks and arrivals").
 abbrev pub is_before : Seat → Seat → Bool
 is_before a b = nat_lt b.rank a.rank || ((a.rank == b.rank) && nat_lt (arrival_in a.place) (arrival_in b.place))
 
+-- The same of seats that are there.
 abbrev pub is_seat_before : Option Seat → Option Seat → Bool
 is_seat_before (Some a) (Some b) = is_before a b
 is_seat_before _ _ = false
 
--- Of two threads that stand in rows the first is before the second.
+-- Of two threads that stand in rows the first is before the second (docs/machine.md, "Ranks and arrivals").
 abbrev pub before : Rows → Tid → Tid → Bool
 before rs a b = is_seat_before (seat_of rs a) (seat_of rs b)
 
@@ -79,6 +95,7 @@ before rs a b = is_seat_before (seat_of rs a) (seat_of rs b)
 abbrev pub Seated : Type 0
 Seated = List (ℕ × Seat)
 
+-- The better of a thread and another that may be there.
 abbrev pub better : ℕ × Seat → Option (ℕ × Seat) → ℕ × Seat
 better e None = e
 better e (Some f) = if is_before e.1 f.1 then e else f
@@ -88,11 +105,12 @@ unfoldable pub best_of : Seated → Option (ℕ × Seat)
 best_of [] = None
 best_of (e ∷ es) = Some (better e (best_of es))
 
+-- A thread in its place among those in order.
 unfoldable pub placed : ℕ × Seat → Seated → Seated
 placed e [] = e ∷ []
 placed e (f ∷ fs) = if is_before e.1 f.1 then e ∷ f ∷ fs else f ∷ placed e fs
 
--- The same threads, each before those behind it.
+-- The same threads, the best first.
 unfoldable pub in_order : Seated → Seated
 in_order [] = []
 in_order (e ∷ es) = placed e (in_order es)
@@ -101,26 +119,29 @@ in_order (e ∷ es) = placed e (in_order es)
 unfoldable pub standing : Rows → RowId → Seated
 standing rs r = filter (λ e. place_in r e.1.place) rs.seats
 
+-- Their numbers.
 abbrev pub numbers_of : Seated → List Tid
 numbers_of es = map (λ e. thread e.0) es
 
+-- The number of the one that is there.
 abbrev pub number_in : Option (ℕ × Seat) → Option Tid
 number_in o = option_map (λ e. thread e.0) o
 
--- The best thread of a row.
+-- The best thread of a row (docs/machine.md, "Ranks and arrivals").
 abbrev pub best : Rows → RowId → Option Tid
 best rs r = number_in (best_of (standing rs r))
 
--- All threads of a row, the best first.
+-- All threads of a row, the best first (docs/machine.md, "Ranks and arrivals").
 abbrev pub best_first : Rows → RowId → List Tid
 best_first rs r = numbers_of (in_order (standing rs r))
 
+-- The thread is one of these.
 abbrev pub is_among : Tid → List Tid → Bool
 is_among t ts = list_any (λ u. u.0 == t.0) ts
 
 -- ---- threads that come and go
 
--- The thread stands in the row from now on, with this rank and the next arrival number.
+-- The thread stands in the row from now on, with this rank and the next arrival (docs/machine.md, "Rows").
 abbrev pub put_in_row : Rows → RowId → Tid → ℕ → Rows
 put_in_row rs r t rank = record {
   seats = put rs.seats t.0 (record { rank = rank; place = Stands r rs.next_arrival });
@@ -132,28 +153,27 @@ pub record LeftRow : Type 0 where
   pub rows : Rows
   pub stood : Bool
 
--- The thread leaves its row; where it stands in none nothing changes.
+-- The thread leaves its row; where it stands in none nothing changes (docs/machine.md, "Rows").
 abbrev pub take_out : Rows → Tid → LeftRow
 take_out rs t = record {
-  rows = record {
-    seats = cut_if (is_in_row (seat_of rs t)) rs.seats t.0;
-    next_arrival = rs.next_arrival;
-  };
+  rows = record { seats = cut_if (is_in_row (seat_of rs t)) rs.seats t.0; next_arrival = rs.next_arrival };
   stood = is_in_row (seat_of rs t);
 }
 
-abbrev pub is_running : Option Seat → Bool
-is_running None = false
-is_running (Some s) = is_none (row_in s.place)
+-- The seats without that of the thread that is there.
+abbrev pub seats_without : Rows → Option Tid → Table Seat
+seats_without rs None = rs.seats
+seats_without rs (Some t) = (take_out rs t).rows.seats
 
--- The thread's processor becomes free; where it runs nowhere nothing changes.
+-- The thread that is there leaves its row.
+abbrev pub take_out_if : Rows → Option Tid → Rows
+take_out_if rs o = record { seats = seats_without rs o; next_arrival = rs.next_arrival }
+
+-- The thread's processor becomes free; where it runs nowhere nothing changes (docs/machine.md, "Rows").
 abbrev pub leave : Rows → Tid → Rows
-leave rs t = record {
-  seats = cut_if (is_running (seat_of rs t)) rs.seats t.0;
-  next_arrival = rs.next_arrival;
-}
+leave rs t = record { seats = cut_if (is_running (seat_of rs t)) rs.seats t.0; next_arrival = rs.next_arrival }
 
--- The running thread leaves its processor and waits in the row.
+-- The running thread leaves its processor and stands in the row (docs/machine.md, "Rows").
 abbrev pub block_in : Rows → RowId → Tid → ℕ → Rows
 block_in rs r t rank = put_in_row (leave rs t) r t rank
 
@@ -164,18 +184,11 @@ block_if waits rs r t rank = record {
   next_arrival = if waits then (block_in rs r t rank).next_arrival else rs.next_arrival;
 }
 
--- The thread that is there leaves its row.
-abbrev pub take_out_if : Rows → Option Tid → Rows
-take_out_if rs o = record { seats = seats_without rs o; next_arrival = rs.next_arrival }
-  where
-    seats_without : Rows → Option Tid → Table Seat
-    seats_without rs None = rs.seats
-    seats_without rs (Some t) = (take_out rs t).rows.seats
-
+-- The seat with this rank.
 abbrev pub as_ranked : ℕ → Seat → Seat
-as_ranked rank s = record s { rank = rank }
+as_ranked rank s = record { rank = rank; place = s.place }
 
--- The thread has this rank at its place, and keeps its arrival.
+-- The thread has this rank at its place, and keeps its arrival (docs/machine.md, "Ranks and arrivals").
 abbrev pub set_rank : Rows → Tid → ℕ → Rows
 set_rank rs t rank = record {
   seats = put_if rs.seats t.0 (option_map (as_ranked rank) (seat_of rs t));
@@ -184,7 +197,7 @@ set_rank rs t rank = record {
 
 -- ---- threads that become ready
 
--- The thread becomes ready, with its rank.
+-- The thread, which stands nowhere, becomes ready with its rank.
 abbrev pub make_ready : (Tid → ℕ) → Rows → Tid → Rows
 make_ready rank rs t = put_in_row rs row.Ready t (rank t)
 
@@ -193,12 +206,12 @@ unfoldable pub make_all_ready : (Tid → ℕ) → Rows → List Tid → Rows
 make_all_ready rank rs [] = rs
 make_all_ready rank rs (t ∷ ts) = make_all_ready rank (make_ready rank (take_out rs t).rows t) ts
 
--- The rows after all threads of a row have left it, and these threads.
+-- The rows after all threads of a row became ready, and these threads in their order.
 pub record Freed : Type 0 where
   pub rows : Rows
   pub woken : List Tid
 
--- All threads of a row become ready, the best first: those that wait for a once block that is done, or for a thread that has
--- ended.
+-- All threads of a row become ready, the best first: those that wait for a once block that is done, or for the end of a
+-- thread (docs/machine.md, "Once blocks" and "Thread records").
 abbrev pub free_row : (Tid → ℕ) → Rows → RowId → Freed
 free_row rank rs r = record { rows = make_all_ready rank rs (best_first rs r); woken = best_first rs r }
