@@ -10,7 +10,7 @@ use Rattle.thr_parts.specs.Waking as waking
 use Rattle.thr_parts.specs.Pipes.{Pipes}
 use Rattle.thr_parts.specs.Pipes as pipes
 
--- What a thread leaves that a cancel wakes, and whether it got its mutex at once.
+-- What there is after a cancel has woken a thread, and whether it got its mutex at once.
 pub record Cancelled : Type 0 where
   pub conds : Conds
   pub pipes : Pipes
@@ -18,8 +18,8 @@ pub record Cancelled : Type 0 where
   pub rows : Rows
   pub gifts : List (Tid × NameId)
 
--- The thread leaves its wait at a point. It is ready, but one that waited on a condition gets its mutex first or waits for it.
--- The item of a writer is dropped.
+-- The thread leaves its wait at a point and is ready; one that waited on a condition gets its mutex first or waits for it.
+-- The item of a writer is dropped (docs/machine.md, "Cancels").
 abbrev pub cancel_wait : (Tid → ℕ) → Conds → Pipes → Locks → Rows → Tid → Cancelled
 cancel_wait rank cs ps ls rs t =
     let o : Regained = resume rank ls (take_out rs t).rows t (mutex_with cs t) in record {

@@ -15,12 +15,14 @@ use Rattle.thr_parts.specs.Tables.{Table, none, get, has, put, put_if, cut_if, k
 use Rattle.thr_parts.specs.Replies.{is_done, is_blocks, making_reply, made_reply}
 use Rattle.thr_parts.specs.Rows.{Rows, best, block_if, put_in_row, take_out_if}
 
--- The mutex attribute cells that are made, with their kinds, the mutexes that are made, and who owns the global lock.
+-- The kinds of the mutex attribute cells that are made, the mutexes that are made, and who owns the global lock
+-- (docs/machine.md, "Mutexes").
 pub record Locks : Type 0 where
   pub kinds : Table Kind
   pub mutexes : Table Mutex
   pub global : Option Held
 
+-- Nothing is made, and the global lock is free (docs/machine.md, "The opening").
 abbrev pub no_locks : Locks
 no_locks = record { kinds = none; mutexes = none; global = None }
 
@@ -29,36 +31,44 @@ pub record LocksReply : Type 0 where
   pub reply : Reply
   pub locks : Locks
 
--- The same where the caller may have to wait.
+-- The same of a call that may wait.
 pub record Locked : Type 0 where
   pub reply : Reply
   pub locks : Locks
   pub rows : Rows
 
--- The same where a mutex may be handed over: the thread that has it now, taken out of its row.
+-- The same of a call that may hand over: the thread that has the mutex now, taken out of its row.
 pub record Unlocked : Type 0 where
   pub reply : Reply
   pub locks : Locks
   pub rows : Rows
   pub given : Option Tid
 
--- ---- attribute cells
-
+-- The locks with these attribute cells.
 abbrev pub with_kinds : Locks → Table Kind → Locks
 with_kinds ls kinds = record { kinds = kinds; mutexes = ls.mutexes; global = ls.global }
 
+-- The locks with these mutexes.
+abbrev pub with_mutexes : Locks → Table Mutex → Locks
+with_mutexes ls mutexes = record { kinds = ls.kinds; mutexes = mutexes; global = ls.global }
+
+-- ---- attribute cells
+
+-- A cell is made, of the kind fast (docs/machine.md, "Mutexes").
 abbrev pub mutexattr_create : Locks → NameId → LocksReply
 mutexattr_create ls a = record {
   reply = making_reply (has ls.kinds a.0);
   locks = with_kinds ls (put_if ls.kinds a.0 (keep_if (not (has ls.kinds a.0)) (Some Fast)));
 }
 
+-- A cell is not made any more (docs/machine.md, "Mutexes").
 abbrev pub mutexattr_delete : Locks → NameId → LocksReply
 mutexattr_delete ls a = record {
   reply = made_reply (has ls.kinds a.0);
   locks = with_kinds ls (cut_if (has ls.kinds a.0) ls.kinds a.0);
 }
 
+-- A cell gets a kind (docs/machine.md, "Mutexes").
 abbrev pub setkind : Locks → NameId → Kind → LocksReply
 setkind ls a kind = record {
   reply = made_reply (has ls.kinds a.0);
@@ -67,28 +77,30 @@ setkind ls a kind = record {
 
 -- ---- made and not made
 
-abbrev pub with_mutexes : Locks → Table Mutex → Locks
-with_mutexes ls mutexes = record { kinds = ls.kinds; mutexes = mutexes; global = ls.global }
-
--- The kind that an attribute cell gives; an absent name is `default`.
+-- The kind by the cell of a name that is there, and else by `default`.
 abbrev pub kind_at : Locks → Option NameId → Option Kind
 kind_at ls None = Some Fast
 kind_at ls (Some a) = get ls.kinds a.0
 
+-- What making a mutex of this kind replies, which is made already or isn't.
 abbrev pub init_reply : Option Kind → Bool → Reply
 init_reply None is_made = reply.Einval
 init_reply (Some kind) is_made = making_reply is_made
 
+-- A mutex that nobody owns.
 abbrev pub free_mutex : Kind → Mutex
 free_mutex kind = record { kind = kind; held = None }
 
+-- A mutex is made, of its cell's kind and free (docs/machine.md, "Mutexes").
 abbrev pub init : Locks → NameId → Option NameId → LocksReply
-init ls m a = record {
-  reply = init_reply (kind_at ls a) (has ls.mutexes m.0);
-  locks = with_mutexes ls (put_if ls.mutexes m.0 (keep_if (not (has ls.mutexes m.0)) (option_map free_mutex (kind_at ls a))));
-}
+init ls m a =
+    let made : Option Mutex = option_map free_mutex (kind_at ls a) in record {
+      reply = init_reply (kind_at ls a) (has ls.mutexes m.0);
+      locks = with_mutexes ls (put_if ls.mutexes m.0 (keep_if (not (has ls.mutexes m.0)) made));
+    }
 
--- The mutex of a name; an absent name is the global lock, which is recursive and always made.
+-- The mutex of a name that is there, and else the global lock, which is recursive and always made (docs/machine.md,
+-- "Mutexes").
 abbrev pub mutex_at : Locks → Option NameId → Option Mutex
 mutex_at ls None = Some (record { kind = Recursive; held = ls.global })
 mutex_at ls (Some m) = get ls.mutexes m.0
@@ -98,31 +110,40 @@ abbrev pub waiters_row : Option NameId → RowId
 waiters_row None = row.Global
 waiters_row (Some m) = row.Mutex m
 
+-- The mutexes with the one that is there at the name that is there.
 abbrev pub mutexes_with : Table Mutex → Option NameId → Option Mutex → Table Mutex
 mutexes_with mutexes (Some m) (Some x) = put mutexes m.0 x
 mutexes_with mutexes _ _ = mutexes
 
+-- The global lock as the one that is there says, where no name is.
 abbrev pub global_with : Option Held → Option NameId → Option Mutex → Option Held
 global_with global None (Some x) = x.held
 global_with global _ _ = global
 
--- The locks with the mutex that is there, if one is, at the name.
+-- The locks with the mutex that is there, if one is, for what the name says.
 abbrev pub with_mutex : Locks → Option NameId → Option Mutex → Locks
 with_mutex ls m x = record { kinds = ls.kinds; mutexes = mutexes_with ls.mutexes m x; global = global_with ls.global m x }
 
-abbrev pub is_owned : Option Mutex → Bool
-is_owned None = false
-is_owned (Some x) = is_some x.held
+-- Who owns a mutex that is there.
+abbrev pub owner_in : Option Mutex → Option Held
+owner_in None = None
+owner_in (Some x) = x.held
+
+-- Who owns it, and how often it is locked (docs/machine.md, "Mutexes").
+abbrev pub owner : Locks → Option NameId → Option Held
+owner ls m = owner_in (mutex_at ls m)
 
 -- It is owned or waited for, or a thread waits on a condition with it.
 abbrev pub is_used : Locks → Rows → NameId → Bool → Bool
-is_used ls rs m waits_with = is_owned (mutex_at ls (Some m)) || is_some (best rs (row.Mutex m)) || waits_with
+is_used ls rs m waits_with = is_some (owner ls (Some m)) || is_some (best rs (row.Mutex m)) || waits_with
 
+-- What destroying a mutex replies that is made or isn't, and used or isn't.
 abbrev pub destroy_reply : Bool → Bool → Reply
 destroy_reply false used = reply.Einval
 destroy_reply true true = reply.Ebusy
 destroy_reply true false = reply.Done
 
+-- A mutex is not made any more; whether a thread waits on a condition with it is told (docs/machine.md, "Mutexes").
 abbrev pub destroy : Locks → Rows → NameId → Bool → LocksReply
 destroy ls rs m waits_with =
     let said : Reply = destroy_reply (has ls.mutexes m.0) (is_used ls rs m waits_with) in record {
@@ -132,31 +153,36 @@ destroy ls rs m waits_with =
 
 -- ---- lock and trylock
 
+-- What a second lock by the owner replies (docs/machine.md, "Mutexes").
 abbrev pub relock_reply : Kind → Reply
 relock_reply Fast = reply.Blocks
 relock_reply Recursive = reply.Done
 relock_reply Nonrecursive = reply.Edeadlk
 
+-- The thread is the owner.
 abbrev pub is_owner : Held → Tid → Bool
 is_owner h t = h.owner.0 == t.0
 
+-- What a lock replies, of this kind and so owned.
 abbrev pub held_reply : Kind → Option Held → Tid → Reply
 held_reply kind None t = reply.Done
 held_reply kind (Some h) t = if is_owner h t then relock_reply kind else reply.Blocks
 
+-- What a lock of the mutex that is there replies (docs/machine.md, "Mutexes").
 abbrev pub lock_reply : Option Mutex → Tid → Reply
 lock_reply None t = reply.Einval
 lock_reply (Some x) t = held_reply x.kind x.held t
 
--- Once more held, by this thread.
+-- Once more locked, by this thread.
 abbrev pub taken : Option Held → Tid → Held
 taken None t = record { owner = t; depth = 1 }
 taken (Some h) t = record { owner = t; depth = h.depth + 1 }
 
+-- The mutex once more locked by this thread.
 abbrev pub as_taken : Tid → Mutex → Mutex
 as_taken t x = record { kind = x.kind; held = Some (taken x.held t) }
 
--- A thread locks a mutex or the global lock.
+-- A thread locks a mutex or the global lock (docs/machine.md, "Mutexes").
 abbrev pub lock : Locks → Rows → Option NameId → Tid → ℕ → Locked
 lock ls rs m t rank =
     let said : Reply = lock_reply (mutex_at ls m) t in record {
@@ -165,12 +191,13 @@ lock ls rs m t rank =
       rows = block_if (is_blocks said) rs (waiters_row m) t rank;
     }
 
+-- What trying replies where a lock replies this.
 abbrev pub trylock_reply : Reply → Reply
 trylock_reply reply.Done = reply.Value (pos 1)
 trylock_reply reply.Einval = reply.Einval
 trylock_reply _ = reply.Value (pos 0)
 
--- A thread locks a mutex where it need not wait.
+-- A thread locks a mutex where a lock would reply `ok` (docs/machine.md, "Mutexes").
 abbrev pub trylock : Locks → NameId → Tid → LocksReply
 trylock ls m t =
     let said : Reply = lock_reply (mutex_at ls (Some m)) t in record {
@@ -180,22 +207,17 @@ trylock ls m t =
 
 -- ---- unlock and hand-over
 
--- Who owns it, and how often it is locked.
-abbrev pub owner_in : Option Mutex → Option Held
-owner_in None = None
-owner_in (Some x) = x.held
-
-abbrev pub owner : Locks → Option NameId → Option Held
-owner ls m = owner_in (mutex_at ls m)
-
+-- The thread owns what is so owned.
 abbrev pub is_held_by : Option Held → Tid → Bool
 is_held_by None t = false
 is_held_by (Some h) t = is_owner h t
 
+-- What an unlock of the mutex that is there replies.
 abbrev pub unlock_reply : Option Mutex → Tid → Reply
 unlock_reply None t = reply.Einval
 unlock_reply (Some x) t = if is_held_by x.held t then reply.Done else reply.Eperm
 
+-- How often it is locked.
 abbrev pub depth_in : Option Held → ℕ
 depth_in None = 0
 depth_in (Some h) = h.depth
@@ -204,28 +226,35 @@ depth_in (Some h) = h.depth
 abbrev pub is_last : Option Held → Bool
 is_last h = nat_le (depth_in h) 1
 
+-- Once less locked.
 abbrev pub one_less : Held → Held
 one_less h = record { owner = h.owner; depth = h.depth - 1 }
 
+-- Locked once by this thread.
 abbrev pub owned_by : Tid → Held
 owned_by t = record { owner = t; depth = 1 }
 
--- Once less held, or held by the heir that is there.
-abbrev pub as_given_up : Option Tid → Mutex → Mutex
-as_given_up heir x = record { kind = x.kind; held = if is_last x.held then option_map owned_by heir else option_map one_less x.held }
+-- Who owns it after an unlock: the heir that is there where it was given up (docs/machine.md, "Mutexes").
+abbrev pub held_after : Option Tid → Option Held → Option Held
+held_after heir h = if is_last h then option_map owned_by heir else option_map one_less h
 
--- A thread unlocks a mutex or the global lock. What becomes free goes to the best that waits for it, which leaves its row.
+-- The mutex after an unlock.
+abbrev pub as_unlocked : Option Tid → Mutex → Mutex
+as_unlocked heir x = record { kind = x.kind; held = held_after heir x.held }
+
+-- A thread unlocks a mutex or the global lock. Where that becomes free the best that waits for it has it at once
+-- (docs/machine.md, "Mutexes").
 abbrev pub unlock : Locks → Rows → Option NameId → Tid → Unlocked
 unlock ls rs m t =
     let said : Reply = unlock_reply (mutex_at ls m) t in
     let heir : Option Tid = keep_if (is_done said && is_last (owner ls m)) (best rs (waiters_row m)) in record {
       reply = said;
-      locks = with_mutex ls m (keep_if (is_done said) (option_map (as_given_up heir) (mutex_at ls m)));
+      locks = with_mutex ls m (keep_if (is_done said) (option_map (as_unlocked heir) (mutex_at ls m)));
       rows = take_out_if rs heir;
       given = heir;
     }
 
--- ---- a mutex for a thread that left a condition
+-- ---- a thread that left a condition
 
 -- The locks and rows after a thread was to get its mutex back, and whether it got it at once.
 pub record Regained : Type 0 where
@@ -233,12 +262,13 @@ pub record Regained : Type 0 where
   pub rows : Rows
   pub gets : Bool
 
+-- The mutex is made and nobody owns it.
 abbrev pub is_free : Option Mutex → Bool
 is_free None = false
 is_free (Some x) = is_none x.held
 
--- The thread, which is in no row, gets its mutex and is ready where that is free, and else waits for it. Either way it takes
--- an arrival.
+-- The thread, which stands nowhere, gets its mutex and is ready where that is free, and else waits for it (docs/machine.md,
+-- "Waits that end").
 abbrev pub regain : Locks → Rows → NameId → Tid → ℕ → Regained
 regain ls rs m t rank =
     let gets : Bool = is_free (mutex_at ls (Some m)) in record {

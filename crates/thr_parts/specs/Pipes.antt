@@ -15,88 +15,99 @@ use Rattle.thr_parts.specs.Tables.{Table, none, get, at, put, put_if, cut, keep_
 use Rattle.thr_parts.specs.Replies.{is_done, is_blocks, is_value}
 use Rattle.thr_parts.specs.Rows.{Rows, best, best_first, row_of, block_if, take_out_if, make_all_ready}
 
--- A pipe: how many items it takes, whether it is open, and its items, the front first.
+-- A pipe: how many items it takes, whether it is open, and its items, the front first (docs/machine.md, "Pipes").
 pub record Pipe : Type 0 where
   pub capacity : ℕ
   pub is_open : Bool
   pub items : List ℤ
 
--- The declared pipes, and of each thread that waits as a writer its pipe and its item.
+-- The declared pipes, and of each thread that waits as a writer its pipe and its item (docs/machine.md, "Pipes").
 pub record Pipes : Type 0 where
   pub pipes : Table Pipe
   pub writing : Table Writing
+
+-- ---- the opening
+
+-- No pipe is declared.
+abbrev pub no_pipes : Pipes
+no_pipes = record { pipes = none; writing = none }
 
 -- A pipe as it is declared: open and empty.
 abbrev pub new_pipe : ℕ → Pipe
 new_pipe capacity = record { capacity = capacity; is_open = true; items = [] }
 
-abbrev pub no_pipes : Pipes
-no_pipes = record { pipes = none; writing = none }
-
+-- The pipes that these declarations declare.
 unfoldable pub declared_pipes : List Item → Table Pipe
 declared_pipes [] = none
 declared_pipes (item.Pipe p capacity ∷ items) = put (declared_pipes items) p.0 (new_pipe capacity)
 declared_pipes (_ ∷ items) = declared_pipes items
 
--- The pipes at the opening (docs/machine.md, "The opening").
+-- The pipes at the opening, with nobody waiting (docs/machine.md, "The opening").
 abbrev pub first_pipes : List Item → Pipes
 first_pipes items = record { pipes = declared_pipes items; writing = none }
+
+-- ---- items
 
 -- What is no pipe is as one that is closed and empty.
 abbrev pub no_pipe : Pipe
 no_pipe = record { capacity = 0; is_open = false; items = [] }
 
+-- The pipe of a name.
 abbrev pub pipe_at : Pipes → NameId → Pipe
 pipe_at ps p = at ps.pipes p.0 no_pipe
 
-abbrev pub with_items : List ℤ → Pipe → Pipe
-with_items items x = record { capacity = x.capacity; is_open = x.is_open; items = items }
+-- The pipe with these items.
+abbrev pub with_items : Pipe → List ℤ → Pipe
+with_items x items = record { capacity = x.capacity; is_open = x.is_open; items = items }
 
+-- The items behind the front.
+abbrev pub behind : List ℤ → List ℤ
+behind [] = []
+behind (v ∷ vs) = vs
+
+-- The item of a wait that is there.
+abbrev pub item_in : Option Writing → List ℤ
+item_in None = []
+item_in (Some w) = w.item ∷ []
+
+-- The item with which the thread that is there waits.
+abbrev pub item_of : Pipes → Option Tid → List ℤ
+item_of ps t = item_in (option_and_then (λ w. get ps.writing w.0) t)
+
+-- The waiting writers without the thread that is there.
 abbrev pub writing_without : Table Writing → Option Tid → Table Writing
 writing_without writing None = writing
 writing_without writing (Some t) = cut writing t.0
 
 -- ---- read
 
--- A reply, and pipes and rows after it, and the writer whose item entered, taken out of its row.
+-- A reply, pipes and rows after it, and the writer whose item entered, taken out of its row.
 pub record ReadReply : Type 0 where
   pub reply : Reply
   pub pipes : Pipes
   pub rows : Rows
   pub relieved : Option Tid
 
+-- What reading an empty pipe replies that is open or isn't.
 abbrev pub empty_reply : Bool → Reply
 empty_reply true = reply.Blocks
 empty_reply false = reply.Eof
 
-abbrev pub read_reply : Pipe → Reply
-read_reply x = front_reply x.items
-  where
-    front_reply : List ℤ → Reply
-    front_reply [] = empty_reply x.is_open
-    front_reply (v ∷ vs) = reply.Value v
+-- What reading replies, with these items in a pipe that is open or isn't (docs/machine.md, "Pipes").
+abbrev pub read_reply : List ℤ → Bool → Reply
+read_reply [] is_open = empty_reply is_open
+read_reply (v ∷ vs) is_open = reply.Value v
 
-abbrev pub behind : List ℤ → List ℤ
-behind [] = []
-behind (v ∷ vs) = vs
-
-abbrev pub item_of : Option Writing → List ℤ
-item_of None = []
-item_of (Some w) = w.item ∷ []
-
--- The item with which the thread that is there waits.
-abbrev pub item_from : Pipes → Option Tid → List ℤ
-item_from ps t = item_of (option_and_then (λ w. get ps.writing w.0) t)
-
--- A thread takes the front item; then the item of the best waiting writer enters.
+-- A thread takes the front item; then the item of the best waiting writer enters (docs/machine.md, "Pipes").
 abbrev pub read : Pipes → Rows → NameId → Tid → ℕ → ReadReply
 read ps rs p t rank =
     let x : Pipe = pipe_at ps p in
-    let said : Reply = read_reply x in
-    let writer : Option Tid = keep_if (is_value said) (best rs (row.Writer p)) in record {
+    let said : Reply = read_reply x.items x.is_open in
+    let writer : Option Tid = keep_if (is_value said) (best rs (row.Writer p)) in
+    let left : Pipe = with_items x (behind x.items ++ item_of ps writer) in record {
       reply = said;
       pipes = record {
-        pipes = put_if ps.pipes p.0 (keep_if (is_value said) (Some (with_items (behind x.items ++ item_from ps writer) x)));
+        pipes = put_if ps.pipes p.0 (keep_if (is_value said) (Some left));
         writing = writing_without ps.writing writer;
       };
       rows = take_out_if (block_if (is_blocks said) rs (row.Reader p) t rank) writer;
@@ -105,30 +116,34 @@ read ps rs p t rank =
 
 -- ---- write
 
--- A reply, and pipes and rows after it, and the reader that was given the item, taken out of its row.
+-- A reply, pipes and rows after it, and the reader that was given the item, taken out of its row.
 pub record WriteReply : Type 0 where
   pub reply : Reply
   pub pipes : Pipes
   pub rows : Rows
   pub reader : Option Tid
 
+-- The pipe isn't full.
 abbrev pub has_room : Pipe → Bool
 has_room x = nat_lt (length x.items) x.capacity
 
+-- What writing replies, with a waiting reader or without (docs/machine.md, "Pipes").
 abbrev pub write_reply : Pipe → Option Tid → Reply
 write_reply x reader =
     if not x.is_open then reply.Epipe
     else (if is_some reader || has_room x then reply.Done else reply.Blocks)
 
--- A thread hands an item to the best waiting reader, or else puts it into the pipe where that has room.
+-- A thread hands an item to the best waiting reader, or else puts it into the pipe, and waits where that is full
+-- (docs/machine.md, "Pipes").
 abbrev pub write : Pipes → Rows → NameId → ℤ → Tid → ℕ → WriteReply
 write ps rs p v t rank =
     let x : Pipe = pipe_at ps p in
     let reader : Option Tid = keep_if x.is_open (best rs (row.Reader p)) in
-    let said : Reply = write_reply x reader in record {
+    let said : Reply = write_reply x reader in
+    let fuller : Pipe = with_items x (x.items ++ v ∷ []) in record {
       reply = said;
       pipes = record {
-        pipes = put_if ps.pipes p.0 (keep_if (is_done said && is_none reader) (Some (with_items (x.items ++ v ∷ []) x)));
+        pipes = put_if ps.pipes p.0 (keep_if (is_done said && is_none reader) (Some fuller));
         writing = put_if ps.writing t.0 (keep_if (is_blocks said) (Some (record { pipe = p; item = v })));
       };
       rows = block_if (is_blocks said) (take_out_if rs reader) (row.Writer p) t rank;
@@ -137,14 +152,17 @@ write ps rs p v t rank =
 
 -- ---- close
 
+-- A reply, and pipes after it.
 pub record PipesReply : Type 0 where
   pub reply : Reply
   pub pipes : Pipes
 
+-- What closing a pipe replies that is open or isn't.
 abbrev pub close_reply : Bool → Reply
 close_reply true = reply.Done
 close_reply false = reply.Einval
 
+-- The pipe closed. Its items stay.
 abbrev pub as_closed : Pipe → Pipe
 as_closed x = record { capacity = x.capacity; is_open = false; items = x.items }
 
@@ -152,7 +170,7 @@ as_closed x = record { capacity = x.capacity; is_open = false; items = x.items }
 unfoldable pub writing_elsewhere : Table Writing → NameId → Table Writing
 writing_elsewhere writing p = filter (λ e. not (e.1.pipe.0 == p.0)) writing
 
--- The pipe takes no more items. It keeps those in it, and those of waiting writers are dropped.
+-- A pipe takes no more items. It keeps those in it, and those of its waiting writers are dropped (docs/machine.md, "Pipes").
 abbrev pub close : Pipes → NameId → PipesReply
 close ps p =
     let opened : Bool = (pipe_at ps p).is_open in record {
@@ -163,7 +181,7 @@ close ps p =
       };
     }
 
--- The same with all waiters of the pipe made ready, readers first and of both the best first.
+-- The same with rows after it, and the readers and the writers that became ready.
 pub record Closed : Type 0 where
   pub reply : Reply
   pub pipes : Pipes
@@ -171,6 +189,7 @@ pub record Closed : Type 0 where
   pub readers : List Tid
   pub writers : List Tid
 
+-- A pipe is closed and its waiters become ready, readers first and of both the best first (docs/machine.md, "Pipes").
 abbrev pub close_out : (Tid → ℕ) → Pipes → Rows → NameId → Closed
 close_out rank ps rs p =
     let opened : Bool = (pipe_at ps p).is_open in
@@ -183,19 +202,22 @@ close_out rank ps rs p =
       writers = writers;
     }
 
--- ---- a waiter that is taken out by a cancel
+-- ---- a waiter that leaves
 
+-- Pipes and rows after a thread was to leave its wait, and whether it had one.
 pub record LeftPipe : Type 0 where
   pub pipes : Pipes
   pub rows : Rows
   pub stood : Bool
 
+-- The row that is there is one of a pipe.
 abbrev pub is_pipe_row : Option RowId → Bool
 is_pipe_row (Some (row.Reader p)) = true
 is_pipe_row (Some (row.Writer p)) = true
 is_pipe_row _ = false
 
--- The thread leaves its wait as a reader or a writer, whose item is dropped; where it has none nothing changes.
+-- The thread leaves its wait as a reader or as a writer, whose item is dropped; where it has none nothing changes
+-- (docs/machine.md, "Waits that end").
 abbrev pub pull_out : Pipes → Rows → Tid → LeftPipe
 pull_out ps rs t =
     let who : Option Tid = keep_if (is_pipe_row (row_of rs t)) (Some t) in record {

@@ -15,6 +15,7 @@ use Rattle.thr_parts.specs.Conditions.{Conds, wait_of, mutex_of, time_of}
 
 -- ---- one thread leaves its wait
 
+-- The waits without that of the thread that is there.
 abbrev pub waits_without : Table Wait → Option Tid → Table Wait
 waits_without waits None = waits
 waits_without waits (Some t) = cut waits t.0
@@ -23,16 +24,19 @@ waits_without waits (Some t) = cut waits t.0
 abbrev pub without_wait : Conds → Option Tid → Conds
 without_wait cs t = record { made = cs.made; waits = waits_without cs.waits t }
 
+-- The thread, or none.
 abbrev pub some_if : Bool → Tid → Option Tid
 some_if b t = keep_if b (Some t)
 
--- Conditions and rows after a thread was to leave its wait, and the mutex with which it waited on a condition.
+-- Conditions and rows after a thread was to leave its wait. Where it had one, the mutex is told with which it waited on a
+-- condition.
 pub record LeftWait : Type 0 where
   pub conds : Conds
   pub rows : Rows
   pub left : Option (Option NameId)
 
--- The thread leaves its wait on a condition or for a time; where it has none nothing changes.
+-- The thread leaves its wait on a condition or for a time; where it has none nothing changes (docs/machine.md, "Waits that
+-- end").
 abbrev pub pull_out : Conds → Rows → Tid → LeftWait
 pull_out cs rs t = record {
   conds = without_wait cs (some_if (is_some (wait_of cs t)) t);
@@ -44,9 +48,11 @@ pull_out cs rs t = record {
 abbrev pub mutex_with : Conds → Tid → Option NameId
 mutex_with cs t = option_and_then mutex_of (wait_of cs t)
 
+-- A thread that waits on a condition, with its mutex.
 abbrev pub beside_mutex : Conds → Tid → Option (Tid × NameId)
 beside_mutex cs t = option_map (λ m. (t, m)) (mutex_with cs t)
 
+-- The thread of a pair that is there.
 abbrev pub thread_in : {A : Type 0} → Option (Tid × A) → Option Tid
 thread_in o = option_map (λ p. p.0) o
 
@@ -60,6 +66,7 @@ pub record TakenNext : Type 0 where
   pub rows : Rows
   pub waiter : Option (Tid × NameId)
 
+-- The best waiter leaves the condition, as each does in turn at a broadcast (docs/machine.md, "Waits that end").
 abbrev pub take_next : Conds → Rows → NameId → TakenNext
 take_next cs rs c =
     let next : Option (Tid × NameId) = next_waiter cs rs c in record {
@@ -68,13 +75,14 @@ take_next cs rs c =
       waiter = next;
     }
 
+-- The same with a reply.
 pub record Signalled : Type 0 where
   pub reply : Reply
   pub conds : Conds
   pub rows : Rows
   pub waiter : Option (Tid × NameId)
 
--- The best waiter leaves the condition.
+-- A signal: the best waiter leaves the condition (docs/machine.md, "Waits that end").
 abbrev pub signal : Conds → Rows → NameId → Signalled
 signal cs rs c =
     let next : Option (Tid × NameId) = keep_if (has cs.made c.0) (next_waiter cs rs c) in record {
@@ -86,19 +94,22 @@ signal cs rs c =
 
 -- ---- times
 
+-- The sooner of two times that may be there.
 abbrev pub sooner : Option ℤ → Option ℤ → Option ℤ
 sooner None b = b
 sooner (Some a) None = Some a
 sooner (Some a) (Some b) = Some (if int_lt b a then b else a)
 
+-- The earliest time of these waits.
 unfoldable pub earliest_in : Table Wait → Option ℤ
 earliest_in [] = None
 earliest_in (e ∷ es) = sooner (time_of e.1) (earliest_in es)
 
--- The earliest time for which a thread waits.
+-- The earliest time for which a thread waits (docs/machine.md, "Times").
 abbrev pub earliest : Conds → Option ℤ
 earliest cs = earliest_in cs.waits
 
+-- The time that is there has come.
 abbrev pub has_come : ℤ → Option ℤ → Bool
 has_come now None = false
 has_come now (Some time) = int_le time now
@@ -107,23 +118,26 @@ has_come now (Some time) = int_le time now
 abbrev pub is_due : Conds → ℤ → ℕ → Bool
 is_due cs now t = has_come now (option_and_then time_of (get cs.waits t))
 
--- The threads whose time has come, in whatever rows.
+-- The threads whose time has come, whatever rows they stand in.
 unfoldable pub due : Conds → Rows → ℤ → Seated
 due cs rs now = filter (λ e. is_due cs now e.0) rs.seats
 
+-- The same, the best first (docs/machine.md, "Times").
 abbrev pub due_first : Conds → Rows → ℤ → List Tid
 due_first cs rs now = numbers_of (in_order (due cs rs now))
 
--- Conditions and rows after the best thread whose time has come was to leave its wait, and that thread with its mutex where
--- it waited on a condition.
+-- A thread, with the mutex with which it waits on a condition.
+abbrev pub beside_wait : Conds → Tid → Tid × Option NameId
+beside_wait cs t = (t, mutex_with cs t)
+
+-- Conditions and rows after the best thread whose time has come was to leave its wait, and that thread with its mutex, if it
+-- waited on a condition.
 pub record Expired : Type 0 where
   pub conds : Conds
   pub rows : Rows
   pub who : Option (Tid × Option NameId)
 
-abbrev pub beside_wait : Conds → Tid → Tid × Option NameId
-beside_wait cs t = (t, mutex_with cs t)
-
+-- The best thread whose time has come leaves its wait (docs/machine.md, "Times").
 abbrev pub expire : Conds → Rows → ℤ → Expired
 expire cs rs now =
     let next : Option Tid = number_in (best_of (due cs rs now)) in record {
@@ -134,7 +148,7 @@ expire cs rs now =
 
 -- ---- several threads leave their waits
 
--- Conditions, locks and rows after threads have left their waits; these threads in their order, each with its mutex where it
+-- Conditions, locks and rows after threads have left their waits; these threads in their order, each with its mutex if it
 -- waited on a condition; and those that got their mutex at once, in the same order.
 pub record Woken : Type 0 where
   pub conds : Conds
@@ -143,11 +157,13 @@ pub record Woken : Type 0 where
   pub woken : List (Tid × Option NameId)
   pub gifts : List (Tid × NameId)
 
--- A thread that left a wait is ready, but one that waited on a condition gets its mutex first or waits for it.
+-- A thread that left a wait is ready; one that waited on a condition gets its mutex first or waits for it (docs/machine.md,
+-- "Waits that end").
 abbrev pub resume : (Tid → ℕ) → Locks → Rows → Tid → Option NameId → Regained
 resume rank ls rs t None = record { locks = ls; rows = make_ready rank rs t; gets = false }
 resume rank ls rs t (Some m) = regain ls rs m t (rank t)
 
+-- The gift of the mutex that is there, if the thread got it.
 abbrev pub gift_of : Tid → Option NameId → Bool → List (Tid × NameId)
 gift_of t (Some m) true = (t, m) ∷ []
 gift_of t _ _ = []
@@ -182,16 +198,13 @@ pub record Notified : Type 0 where
   pub reply : Reply
   pub woken : Woken
 
-abbrev pub notify : (Tid → ℕ) → Conds → Locks → Rows → NameId → List Tid → Notified
-notify rank cs ls rs c ts = record {
+-- A broadcast: every thread that waits on the condition leaves it, the best first (docs/machine.md, "Waits that end").
+abbrev pub broadcast : (Tid → ℕ) → Conds → Locks → Rows → NameId → Notified
+broadcast rank cs ls rs c = record {
   reply = made_reply (has cs.made c.0);
-  woken = wake_all rank cs ls rs (if has cs.made c.0 then ts else []);
+  woken = wake_all rank cs ls rs (if has cs.made c.0 then best_first rs (row.Cond c) else []);
 }
 
--- Every thread that waits on the condition leaves it, the best first.
-abbrev pub broadcast : (Tid → ℕ) → Conds → Locks → Rows → NameId → Notified
-broadcast rank cs ls rs c = notify rank cs ls rs c (best_first rs (row.Cond c))
-
--- Every thread whose time has come leaves its wait, the best of all of them first.
+-- Every thread whose time has come leaves its wait, the best of them all first (docs/machine.md, "Times").
 abbrev pub expire_all : (Tid → ℕ) → Conds → Locks → Rows → ℤ → Woken
 expire_all rank cs ls rs now = wake_all rank cs ls rs (due_first cs rs now)
