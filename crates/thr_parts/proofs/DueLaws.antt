@@ -10,10 +10,13 @@ use Rattle.thr_parts.specs.declared.row.RowId.TheVariants as row
 use Rattle.thr_parts.specs.declared.row.Seat.{Seat}
 use Rattle.thr_parts.specs.declared.wait.Wait.{Wait}
 use Rattle.thr_parts.specs.Tables.{Table, get, cut, IsCanonical}
-use Rattle.thr_parts.specs.Rows.{Rows, thread, best_of, in_order, numbers_of, number_in, put_in_row}
-use Rattle.thr_parts.specs.Mutexes.{Locks, mutex_at, is_free}
+use Rattle.thr_parts.specs.Rows.{Rows, thread, best_of, in_order, numbers_of, number_in}
+use Rattle.thr_parts.specs.Moves.{put_in_row}
+use Rattle.thr_parts.specs.Mutexes.{Locks, mutex_at}
+use Rattle.thr_parts.specs.Locking.{is_free}
 use Rattle.thr_parts.specs.Conditions.{Conds, wait_of, time_of}
-use Rattle.thr_parts.specs.Waking.{pull_out, some_if, without_wait, mutex_with, has_come, is_due, due, due_first, resume, wake_all}
+use Rattle.thr_parts.specs.Waking.{pull_out, some_if, without_wait, mutex_with, resume, wake_all}
+use Rattle.thr_parts.specs.Expiry.{has_come, is_due, due, due_first}
 use Rattle.thr_parts.proofs.TableLaws.{get_cut}
 use Rattle.thr_parts.proofs.EntryLaws.{itself, pass, canonical_filter, get_filter, filter_put, filter_twice, filter_alike, cut_is}
 use Rattle.thr_parts.proofs.BestLaws.{found, best_leads, nobody_in_order}

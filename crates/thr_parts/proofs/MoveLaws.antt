@@ -7,7 +7,8 @@ use Rattle.thr_parts.specs.declared.row.RowId.{RowId}
 use Rattle.thr_parts.specs.declared.row.RowId.TheVariants as row
 use Rattle.thr_parts.specs.declared.row.Seat.{Seat}
 use Rattle.thr_parts.specs.Tables.{Table, cut, IsCanonical}
-use Rattle.thr_parts.specs.Rows.{Rows, thread, seat_of, is_same_row, is_in_row, is_running, in_order, standing, numbers_of, best, best_first, as_ranked, put_in_row, take_out, take_out_if, leave, block_in, block_if, set_rank, make_ready, make_all_ready}
+use Rattle.thr_parts.specs.Rows.{Rows, thread, seat_of, is_same_row, is_in_row, is_running, in_order, standing, numbers_of, best, best_first}
+use Rattle.thr_parts.specs.Moves.{as_ranked, put_in_row, take_out, take_out_if, leave, block_in, block_if, set_rank, make_ready, make_all_ready}
 use Rattle.thr_parts.specs.Dispatch.{dispatch, next_for, with_processor, keeps, as_kept}
 use Rattle.thr_parts.proofs.TableLaws.{canonical_put, canonical_put_if, canonical_cut_if}
 use Rattle.thr_parts.proofs.EntryLaws.{filter_put, filter_twice, cut_is}

@@ -7,8 +7,10 @@ use Rattle.thr_values.specs.declared.number.NameId.{NameId}
 use Rattle.thr_parts.specs.declared.row.RowId.{RowId}
 use Rattle.thr_parts.specs.declared.row.RowId.TheVariants as row
 use Rattle.thr_parts.specs.Tables.{Table, get, cut, cut_if, IsCanonical}
-use Rattle.thr_parts.specs.Rows.{Rows, seat_of, is_same_row, is_in_row, in_order, standing, numbers_of, best, best_first, take_out, take_out_if, make_ready, make_all_ready, Freed, free_row}
-use Rattle.thr_parts.specs.Mutexes.{Locks, mutex_at, is_free}
+use Rattle.thr_parts.specs.Rows.{Rows, seat_of, is_same_row, is_in_row, in_order, standing, numbers_of, best, best_first}
+use Rattle.thr_parts.specs.Moves.{take_out, take_out_if, make_ready, make_all_ready, Freed, free_row}
+use Rattle.thr_parts.specs.Mutexes.{Locks, mutex_at}
+use Rattle.thr_parts.specs.Locking.{is_free}
 use Rattle.thr_parts.specs.Conditions.{Conds, wait_of}
 use Rattle.thr_parts.specs.Waking.{pull_out, some_if, mutex_with, resume, wake_all, wake_then}
 use Rattle.thr_parts.proofs.TableLaws.{get_cut, canonical_cut, same_table}

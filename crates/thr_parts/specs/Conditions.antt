@@ -12,8 +12,10 @@ use Rattle.thr_parts.specs.declared.wait.Wait.TheVariants.{Cond, Delay}
 use Rattle.thr_parts.specs.Tables.{Table, none, get, has, put_if, cut_if, keep_if}
 use Rattle.thr_parts.specs.Replies.{is_done, is_blocks, making_reply}
 use Rattle.thr_parts.specs.Times.{is_no_interval}
-use Rattle.thr_parts.specs.Rows.{Rows, best, block_if, take_out_if}
-use Rattle.thr_parts.specs.Mutexes.{Locks, owner, mutex_at, with_mutex, is_held_by, is_last, as_unlocked}
+use Rattle.thr_parts.specs.Rows.{Rows, best}
+use Rattle.thr_parts.specs.Moves.{block_if, take_out_if}
+use Rattle.thr_parts.specs.Mutexes.{Locks, owner, mutex_at, with_mutex}
+use Rattle.thr_parts.specs.Locking.{is_held_by, is_last, as_unlocked}
 
 -- The conditions that are made, and the waits of the threads that wait on one or for a time (docs/machine.md, "Conditions").
 pub record Conds : Type 0 where

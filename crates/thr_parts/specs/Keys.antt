@@ -1,5 +1,5 @@
 -- Keys: their destructors, and the values of threads (docs/machine.md, "Keys").
-use Rattle.std.specs.Prelude.{ℕ, ◌==◌, Bool, true, false, not, if◌then◌else◌, ℤ, pos, negsuc, [], ◌∷◌, Option, Some, None}
+use Rattle.std.specs.Prelude.{ℕ, ◌==◌, Bool, false, not, if◌then◌else◌, ℤ, pos, negsuc, [], ◌∷◌, Option, Some, None}
 use Rattle.std.specs.Option.{option_map, option_or}
 use Rattle.thr_values.specs.declared.number.Tid.{Tid}
 use Rattle.thr_values.specs.declared.number.NameId.{NameId}

@@ -1,5 +1,5 @@
 -- Once blocks (docs/machine.md, "Once blocks").
-use Rattle.std.specs.Prelude.{ℕ, ◌==◌, Bool, true, false, if◌then◌else◌, is_none, Option, Some, None}
+use Rattle.std.specs.Prelude.{ℕ, ◌==◌, Bool, if◌then◌else◌, is_none, Option, Some, None}
 use Rattle.thr_values.specs.declared.number.Tid.{Tid}
 use Rattle.thr_values.specs.declared.number.NameId.{NameId}
 use Rattle.thr_values.specs.declared.reply.Reply.{Reply}
@@ -10,7 +10,8 @@ use Rattle.thr_parts.specs.declared.row.RowId.TheVariants as row
 use Rattle.thr_parts.specs.Tables.{Table, get, put, put_if, cut, keep_if}
 use Rattle.thr_parts.specs.Replies.{is_blocks}
 use Rattle.thr_parts.specs.Keys.{Onces}
-use Rattle.thr_parts.specs.Rows.{Rows, best, block_if, take_out_if}
+use Rattle.thr_parts.specs.Rows.{Rows, best}
+use Rattle.thr_parts.specs.Moves.{block_if, take_out_if}
 
 -- The same keys with these once blocks.
 abbrev pub with_blocks : Onces → Table OnceBlock → Onces

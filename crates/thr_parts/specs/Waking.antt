@@ -1,17 +1,18 @@
 -- Waits on conditions and for times that end (docs/machine.md, "Waits that end").
-use Rattle.std.specs.Prelude.{ℕ, Bool, true, false, if◌then◌else◌, is_some, int_le, int_lt, ℤ, List, [], ◌∷◌, ◌++◌, Option, Some, None}
-use Rattle.std.specs.List.{filter}
+use Rattle.std.specs.Prelude.{ℕ, Bool, true, false, if◌then◌else◌, is_some, List, [], ◌∷◌, ◌++◌, Option, Some, None}
 use Rattle.std.specs.Option.{option_map, option_and_then}
 use Rattle.thr_values.specs.declared.number.Tid.{Tid}
 use Rattle.thr_values.specs.declared.number.NameId.{NameId}
 use Rattle.thr_values.specs.declared.reply.Reply.{Reply}
 use Rattle.thr_parts.specs.declared.row.RowId.TheVariants as row
 use Rattle.thr_parts.specs.declared.wait.Wait.{Wait}
-use Rattle.thr_parts.specs.Tables.{Table, get, has, cut, keep_if}
+use Rattle.thr_parts.specs.Tables.{Table, has, cut, keep_if}
 use Rattle.thr_parts.specs.Replies.{made_reply}
-use Rattle.thr_parts.specs.Rows.{Rows, Seated, best, best_first, best_of, in_order, numbers_of, number_in, take_out_if, make_ready}
-use Rattle.thr_parts.specs.Mutexes.{Locks, Regained, regain}
-use Rattle.thr_parts.specs.Conditions.{Conds, wait_of, mutex_of, time_of}
+use Rattle.thr_parts.specs.Rows.{Rows, best, best_first}
+use Rattle.thr_parts.specs.Moves.{take_out_if, make_ready}
+use Rattle.thr_parts.specs.Mutexes.{Locks}
+use Rattle.thr_parts.specs.Locking.{Regained, regain}
+use Rattle.thr_parts.specs.Conditions.{Conds, wait_of, mutex_of}
 
 -- ---- one thread leaves its wait
 
@@ -52,6 +53,10 @@ mutex_with cs t = option_and_then mutex_of (wait_of cs t)
 abbrev pub beside_mutex : Conds → Tid → Option (Tid × NameId)
 beside_mutex cs t = option_map (λ m. (t, m)) (mutex_with cs t)
 
+-- A thread, with the mutex with which it waits on a condition.
+abbrev pub beside_wait : Conds → Tid → Tid × Option NameId
+beside_wait cs t = (t, mutex_with cs t)
+
 -- The thread of a pair that is there.
 abbrev pub thread_in : {A : Type 0} → Option (Tid × A) → Option Tid
 thread_in o = option_map (λ p. p.0) o
@@ -90,60 +95,6 @@ signal cs rs c =
       conds = without_wait cs (thread_in next);
       rows = take_out_if rs (thread_in next);
       waiter = next;
-    }
-
--- ---- times
-
--- The sooner of two times that may be there.
-abbrev pub sooner : Option ℤ → Option ℤ → Option ℤ
-sooner None b = b
-sooner (Some a) None = Some a
-sooner (Some a) (Some b) = Some (if int_lt b a then b else a)
-
--- The earliest time of these waits.
-unfoldable pub earliest_in : Table Wait → Option ℤ
-earliest_in [] = None
-earliest_in (e ∷ es) = sooner (time_of e.1) (earliest_in es)
-
--- The earliest time for which a thread waits (docs/machine.md, "Times").
-abbrev pub earliest : Conds → Option ℤ
-earliest cs = earliest_in cs.waits
-
--- The time that is there has come.
-abbrev pub has_come : ℤ → Option ℤ → Bool
-has_come now None = false
-has_come now (Some time) = int_le time now
-
--- The time has come for which the thread of this number waits.
-abbrev pub is_due : Conds → ℤ → ℕ → Bool
-is_due cs now t = has_come now (option_and_then time_of (get cs.waits t))
-
--- The threads whose time has come, whatever rows they stand in.
-unfoldable pub due : Conds → Rows → ℤ → Seated
-due cs rs now = filter (λ e. is_due cs now e.0) rs.seats
-
--- The same, the best first (docs/machine.md, "Times").
-abbrev pub due_first : Conds → Rows → ℤ → List Tid
-due_first cs rs now = numbers_of (in_order (due cs rs now))
-
--- A thread, with the mutex with which it waits on a condition.
-abbrev pub beside_wait : Conds → Tid → Tid × Option NameId
-beside_wait cs t = (t, mutex_with cs t)
-
--- Conditions and rows after the best thread whose time has come was to leave its wait, and that thread with its mutex, if it
--- waited on a condition.
-pub record Expired : Type 0 where
-  pub conds : Conds
-  pub rows : Rows
-  pub who : Option (Tid × Option NameId)
-
--- The best thread whose time has come leaves its wait (docs/machine.md, "Times").
-abbrev pub expire : Conds → Rows → ℤ → Expired
-expire cs rs now =
-    let next : Option Tid = number_in (best_of (due cs rs now)) in record {
-      conds = without_wait cs next;
-      rows = take_out_if rs next;
-      who = option_map (beside_wait cs) next;
     }
 
 -- ---- several threads leave their waits
@@ -204,7 +155,3 @@ broadcast rank cs ls rs c = record {
   reply = made_reply (has cs.made c.0);
   woken = wake_all rank cs ls rs (if has cs.made c.0 then best_first rs (row.Cond c) else []);
 }
-
--- Every thread whose time has come leaves its wait, the best of them all first (docs/machine.md, "Times").
-abbrev pub expire_all : (Tid → ℕ) → Conds → Locks → Rows → ℤ → Woken
-expire_all rank cs ls rs now = wake_all rank cs ls rs (due_first cs rs now)

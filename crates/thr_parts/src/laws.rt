@@ -7,21 +7,16 @@ ghost use Rattle.thr_parts.specs.declared.row.RowId.{RowId};
 ghost use Rattle.thr_parts.specs.declared.row.RowId.TheVariants as row;
 ghost use Rattle.thr_parts.specs.declared.row.Seat.{Seat};
 ghost use Rattle.thr_parts.specs.Tables.{Table, none, get, at, put, cut, present, IsCanonical};
-ghost use Rattle.thr_parts.specs.Rows.{Rows, seat_of, row_of, is_same_row, before, best, best_first, best_of, number_in, is_among, put_in_row, take_out, leave, block_in, set_rank, make_ready, make_all_ready, free_row};
+ghost use Rattle.thr_parts.specs.Rows.{Rows, seat_of, row_of, is_same_row, before, best, best_first, best_of, number_in, is_among};
+ghost use Rattle.thr_parts.specs.Moves.{put_in_row, take_out, leave, block_in, set_rank, make_ready, make_all_ready, free_row};
 ghost use Rattle.thr_parts.specs.Dispatch.{dispatch, keeps, is_outranked, is_matched};
 ghost use Rattle.thr_parts.specs.Mutexes.{Locks};
 ghost use Rattle.thr_parts.specs.Conditions.{Conds};
-ghost use Rattle.thr_parts.specs.Waking.{due, due_first, wake_all, wake_then};
+ghost use Rattle.thr_parts.specs.Waking.{wake_all, wake_then};
+ghost use Rattle.thr_parts.specs.Expiry.{due, due_first};
 
 /// What a table has at a number after a change.
-#[tactic(
-    auto,
-    using(
-        crate::proofs::TableLaws::at_none,
-        crate::proofs::TableLaws::at_put,
-        crate::proofs::TableLaws::at_cut
-    )
-)]
+#[tactic(auto, using(crate::proofs::TableLaws::at_none, crate::proofs::TableLaws::at_put, crate::proofs::TableLaws::at_cut))]
 pub fn tables_have_what_was_put<A>()
     ensures none { (q : ℕ) (d : A) → at none q d ≡ d }
     ensures put { (m : Table A) (k q : ℕ) (v d : A) → at (put m k v) q d ≡ (if k == q then v else at m q d) }
@@ -30,19 +25,7 @@ pub fn tables_have_what_was_put<A>()
 
 /// The numbers of a table rise, and go on to rise after a change. Such a table is known by what it has at each number, and
 /// one that is made of a list of items is changed as the list is.
-#[tactic(
-    auto,
-    using(
-        crate::proofs::TableLaws::canonical_none,
-        crate::proofs::TableLaws::canonical_put,
-        crate::proofs::TableLaws::canonical_cut,
-        crate::proofs::TableLaws::canonical_present,
-        crate::proofs::TableLaws::same_table,
-        crate::proofs::TableLaws::put_cut,
-        crate::proofs::TableLaws::put_present,
-        crate::proofs::TableLaws::cut_present
-    )
-)]
+#[tactic(auto, using(crate::proofs::TableLaws::canonical_none, crate::proofs::TableLaws::canonical_put, crate::proofs::TableLaws::canonical_cut, crate::proofs::TableLaws::canonical_present, crate::proofs::TableLaws::same_table, crate::proofs::TableLaws::put_cut, crate::proofs::TableLaws::put_present, crate::proofs::TableLaws::cut_present))]
 pub fn tables_stay_canonical<A>()
     ensures none { IsCanonical (none {A = A}) }
     ensures put { (m : Table A) (k : ℕ) (v : A) → IsCanonical m → IsCanonical (put m k v) }
@@ -58,15 +41,7 @@ pub fn tables_stay_canonical<A>()
 
 /// The best thread of a row stands in it, and no other thread of it comes before. A row has none exactly where nobody stands
 /// in it.
-#[tactic(
-    auto,
-    using(
-        crate::proofs::RowLaws::best_stands,
-        crate::proofs::RowLaws::none_comes_before,
-        crate::proofs::RowLaws::nobody_stands,
-        crate::proofs::RowLaws::no_best
-    )
-)]
+#[tactic(auto, using(crate::proofs::RowLaws::best_stands, crate::proofs::RowLaws::none_comes_before, crate::proofs::RowLaws::nobody_stands, crate::proofs::RowLaws::no_best))]
 pub fn no_thread_of_a_row_comes_before_its_best()
     ensures stands { (rs : Rows) (r : RowId) (w : Tid) → IsCanonical rs.seats → best rs r ≡ Some w
         → row_of rs w ≡ Some r }
@@ -88,19 +63,7 @@ pub fn threads_stand_in_one_row()
 {}
 
 /// The seats stay a table whose numbers rise, whatever becomes of threads.
-#[tactic(
-    auto,
-    using(
-        crate::proofs::MoveLaws::canonical_put_in_row,
-        crate::proofs::MoveLaws::canonical_take_out,
-        crate::proofs::MoveLaws::canonical_leave,
-        crate::proofs::MoveLaws::canonical_block_in,
-        crate::proofs::MoveLaws::canonical_set_rank,
-        crate::proofs::MoveLaws::canonical_dispatch,
-        crate::proofs::MoveLaws::canonical_keeps,
-        crate::proofs::MoveLaws::canonical_make_all_ready
-    )
-)]
+#[tactic(auto, using(crate::proofs::MoveLaws::canonical_put_in_row, crate::proofs::MoveLaws::canonical_take_out, crate::proofs::MoveLaws::canonical_leave, crate::proofs::MoveLaws::canonical_block_in, crate::proofs::MoveLaws::canonical_set_rank, crate::proofs::MoveLaws::canonical_dispatch, crate::proofs::MoveLaws::canonical_keeps, crate::proofs::MoveLaws::canonical_make_all_ready))]
 pub fn rows_stay_canonical()
     ensures put_in_row { (rs : Rows) (r : RowId) (t : Tid) (rank : ℕ) → IsCanonical rs.seats
         → IsCanonical (put_in_row rs r t rank).seats }
@@ -119,15 +82,7 @@ pub fn rows_stay_canonical()
 
 /// A ready thread has greater rank than this where the best one has; and where none has, one has equal rank where the best
 /// one has.
-#[tactic(
-    auto,
-    using(
-        crate::proofs::StandingLaws::outranked_by_best,
-        crate::proofs::StandingLaws::outranked_by_nobody,
-        crate::proofs::StandingLaws::matched_by_best,
-        crate::proofs::StandingLaws::matched_by_nobody
-    )
-)]
+#[tactic(auto, using(crate::proofs::StandingLaws::outranked_by_best, crate::proofs::StandingLaws::outranked_by_nobody, crate::proofs::StandingLaws::matched_by_best, crate::proofs::StandingLaws::matched_by_nobody))]
 pub fn the_best_ready_thread_tells_who_gives_way()
     ensures outranked { (rs : Rows) (rank : ℕ) (w : Tid) (s : Seat) → IsCanonical rs.seats
         → best rs row.Ready ≡ Some w → seat_of rs w ≡ Some s → is_outranked rs rank ≡ nat_lt rank s.rank }
@@ -145,36 +100,28 @@ pub fn rows_are_freed_one_at_a_time()
     ensures step { (rank : Tid → ℕ) (rs : Rows) (r : RowId) (t : Tid) → IsCanonical rs.seats
         → is_same_row r row.Ready ≡ false → best rs r ≡ Some t
         → free_row rank rs r
-          ≡ record {
-            rows = (free_row rank (make_ready rank (take_out rs t).rows t) r).rows;
-            woken = t ∷ (free_row rank (make_ready rank (take_out rs t).rows t) r).woken;
-          } }
+        ≡ record {
+          rows = (free_row rank (make_ready rank (take_out rs t).rows t) r).rows;
+          woken = t ∷ (free_row rank (make_ready rank (take_out rs t).rows t) r).woken;
+        } }
 {}
 
 /// Threads that are woken by a broadcast, or whose time has come: the best leaves its wait, and then those that are left.
-#[tactic(
-    auto,
-    using(
-        crate::proofs::WakeLaws::wake_row_nobody,
-        crate::proofs::WakeLaws::wake_cond_step,
-        crate::proofs::DueLaws::wake_due_nobody,
-        crate::proofs::DueLaws::wake_due_step
-    )
-)]
+#[tactic(auto, using(crate::proofs::WakeLaws::wake_row_nobody, crate::proofs::WakeLaws::wake_cond_step, crate::proofs::DueLaws::wake_due_nobody, crate::proofs::DueLaws::wake_due_step))]
 pub fn threads_are_woken_one_at_a_time()
     ensures nobody { (rank : Tid → ℕ) (cs : Conds) (ls : Locks) (rs : Rows) (c : NameId) → best rs (row.Cond c) ≡ None
         → wake_all rank cs ls rs (best_first rs (row.Cond c))
-          ≡ record { conds = cs; locks = ls; rows = rs; woken = []; gifts = [] } }
+        ≡ record { conds = cs; locks = ls; rows = rs; woken = []; gifts = [] } }
     ensures waiter { (rank : Tid → ℕ) (cs : Conds) (ls : Locks) (rs : Rows) (c : NameId) (t : Tid)
         → IsCanonical rs.seats → best rs (row.Cond c) ≡ Some t
         → wake_all rank cs ls rs (best_first rs (row.Cond c))
-          ≡ wake_then rank cs ls rs t (λ _ rows. best_first rows (row.Cond c)) }
+        ≡ wake_then rank cs ls rs t (λ _ rows. best_first rows (row.Cond c)) }
     ensures none_due { (rank : Tid → ℕ) (cs : Conds) (ls : Locks) (rs : Rows) (now : ℤ)
         → number_in (best_of (due cs rs now)) ≡ None
         → wake_all rank cs ls rs (due_first cs rs now)
-          ≡ record { conds = cs; locks = ls; rows = rs; woken = []; gifts = [] } }
+        ≡ record { conds = cs; locks = ls; rows = rs; woken = []; gifts = [] } }
     ensures due { (rank : Tid → ℕ) (cs : Conds) (ls : Locks) (rs : Rows) (now : ℤ) (t : Tid) → IsCanonical rs.seats
         → number_in (best_of (due cs rs now)) ≡ Some t
         → wake_all rank cs ls rs (due_first cs rs now)
-          ≡ wake_then rank cs ls rs t (λ conds rows. due_first conds rows now) }
+        ≡ wake_then rank cs ls rs t (λ conds rows. due_first conds rows now) }
 {}

@@ -9,7 +9,7 @@ ghost use Rattle.thr_parts.specs.declared.wait.Wait.TheVariants.{Cond, Delay};
 ghost use Rattle.thr_parts.specs.Tables.{none};
 ghost use Rattle.thr_parts.specs.Rows.{thread, no_rows};
 ghost use Rattle.thr_parts.specs.Cancels.{cancel, waits_at_point};
-ghost use Rattle.thr_parts.specs.Mutexes.{regain};
+ghost use Rattle.thr_parts.specs.Locking.{regain};
 ghost use Rattle.thr_parts.specs.Conditions.{no_conds, cond_init, cond_destroy, wait, timedwait, waits_with};
 ghost use Rattle.thr_parts.specs.Waking.{signal, take_next, pull_out, broadcast};
 ghost use Rattle.thr_parts.specs.Samples.{alone, name, rows, running_at, standing_in, threads, mode, in_mode, free, held, locks, conds, made};
@@ -103,8 +103,8 @@ pub fn begun_waits()
         } }
     ensures handed_over { timedwait (conds []) (locks ((10, held Recursive 1 1) ∷ []))
         (rows 3
-            ((1, running_at 0 116 8) ∷ (2, standing_in (row.Mutex (name 10)) 100 1)
-                ∷ (3, standing_in (row.Mutex (name 10)) 116 2) ∷ [])) (name 20) (name 10) (pos 8) (pos 7) (thread 1) 116
+        ((1, running_at 0 116 8) ∷ (2, standing_in (row.Mutex (name 10)) 100 1)
+        ∷ (3, standing_in (row.Mutex (name 10)) 116 2) ∷ [])) (name 20) (name 10) (pos 8) (pos 7) (thread 1) 116
         ≡ record {
           reply = reply.Blocks;
           conds = conds ((1, Cond (name 20) (name 10) (Some (pos 8))) ∷ []);
@@ -190,13 +190,13 @@ pub fn broadcasts()
         } }
     ensures free { broadcast (λ t. 100 + t.0)
         (conds
-            ((2, Cond (name 20) (name 10) None) ∷ (3, Cond (name 20) (name 10) None)
-                ∷ (4, Cond (name 20) (name 10) (Some (pos 9))) ∷ (5, Cond (name 21) (name 10) None) ∷ []))
+        ((2, Cond (name 20) (name 10) None) ∷ (3, Cond (name 20) (name 10) None)
+        ∷ (4, Cond (name 20) (name 10) (Some (pos 9))) ∷ (5, Cond (name 21) (name 10) None) ∷ []))
         (locks ((10, free Fast) ∷ []))
         (rows 5
-            ((1, running_at 0 101 8) ∷ (2, standing_in (row.Cond (name 20)) 102 1)
-                ∷ (3, standing_in (row.Cond (name 20)) 103 2) ∷ (4, standing_in (row.Cond (name 20)) 104 3)
-                ∷ (5, standing_in (row.Cond (name 21)) 105 4) ∷ [])) (name 20)
+        ((1, running_at 0 101 8) ∷ (2, standing_in (row.Cond (name 20)) 102 1)
+        ∷ (3, standing_in (row.Cond (name 20)) 103 2) ∷ (4, standing_in (row.Cond (name 20)) 104 3)
+        ∷ (5, standing_in (row.Cond (name 21)) 105 4) ∷ [])) (name 20)
         ≡ record {
           reply = reply.Done;
           woken = record {
@@ -204,8 +204,8 @@ pub fn broadcasts()
             locks = locks ((10, held Fast 4 1) ∷ []);
             rows = rows 8
                 ((1, running_at 0 101 8) ∷ (2, standing_in (row.Mutex (name 10)) 102 7)
-                    ∷ (3, standing_in (row.Mutex (name 10)) 103 6) ∷ (4, standing_in row.Ready 104 5)
-                    ∷ (5, standing_in (row.Cond (name 21)) 105 4) ∷ []);
+                ∷ (3, standing_in (row.Mutex (name 10)) 103 6) ∷ (4, standing_in row.Ready 104 5)
+                ∷ (5, standing_in (row.Cond (name 21)) 105 4) ∷ []);
             woken = (thread 4, Some (name 10)) ∷ (thread 3, Some (name 10)) ∷ (thread 2, Some (name 10)) ∷ [];
             gifts = (thread 4, name 10) ∷ [];
           };
@@ -214,14 +214,14 @@ pub fn broadcasts()
         (conds ((2, Cond (name 20) (name 10) None) ∷ (3, Cond (name 20) (name 10) None) ∷ []))
         (locks ((10, held Fast 1 1) ∷ []))
         (rows 5
-            ((1, running_at 0 116 8) ∷ (2, standing_in (row.Cond (name 20)) 116 2)
-                ∷ (3, standing_in (row.Cond (name 20)) 116 1) ∷ [])) (name 20)).woken
+        ((1, running_at 0 116 8) ∷ (2, standing_in (row.Cond (name 20)) 116 2)
+        ∷ (3, standing_in (row.Cond (name 20)) 116 1) ∷ [])) (name 20)).woken
         ≡ record {
           conds = conds [];
           locks = locks ((10, held Fast 1 1) ∷ []);
           rows = rows 7
               ((1, running_at 0 116 8) ∷ (2, standing_in (row.Mutex (name 10)) 116 6)
-                  ∷ (3, standing_in (row.Mutex (name 10)) 116 5) ∷ []);
+              ∷ (3, standing_in (row.Mutex (name 10)) 116 5) ∷ []);
           woken = (thread 3, Some (name 10)) ∷ (thread 2, Some (name 10)) ∷ [];
           gifts = [];
         } }
@@ -233,9 +233,9 @@ pub fn broadcasts()
 pub fn signals_and_cancels()
     ensures waits_for_mutex { waits_at_point
         (regain (locks ((10, held Fast 1 1) ∷ []))
-            (signal (conds ((2, Cond (name 20) (name 10) None) ∷ []))
-                (rows 3 ((2, standing_in (row.Cond (name 20)) 116 1) ∷ [])) (name 20)).rows (name 10) (thread 2)
-            116).rows (thread 2)
+        (signal (conds ((2, Cond (name 20) (name 10) None) ∷ []))
+        (rows 3 ((2, standing_in (row.Cond (name 20)) 116 1) ∷ [])) (name 20)).rows (name 10) (thread 2)
+        116).rows (thread 2)
         ≡ false }
     ensures pending { (cancel (threads ((2, in_mode 2 (mode false true false)) ∷ []) 3) (pos 2) false).reply
         ≡ reply.Effect Pending }

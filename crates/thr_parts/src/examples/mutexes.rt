@@ -5,7 +5,8 @@ ghost use Rattle.thr_values.specs.declared.reply.Kind.TheVariants.{Fast, Recursi
 ghost use Rattle.thr_values.specs.declared.reply.Reply.TheVariants as reply;
 ghost use Rattle.thr_parts.specs.declared.row.RowId.TheVariants.{Ready, Mutex, Global};
 ghost use Rattle.thr_parts.specs.Rows.{thread, no_rows};
-ghost use Rattle.thr_parts.specs.Mutexes.{no_locks, mutexattr_create, mutexattr_delete, setkind, init, destroy, lock, trylock, unlock, owner, regain};
+ghost use Rattle.thr_parts.specs.Mutexes.{no_locks, mutexattr_create, mutexattr_delete, setkind, init, destroy, owner};
+ghost use Rattle.thr_parts.specs.Locking.{lock, trylock, unlock, regain};
 ghost use Rattle.thr_parts.specs.Samples.{alone, name, rows, running_at, standing_in, free, held, locks, kinds, global};
 
 /// Attribute cells of mutexes are created fast.

@@ -5,7 +5,8 @@ ghost use Rattle.thr_values.specs.declared.reply.Reply.TheVariants as reply;
 ghost use Rattle.thr_parts.specs.declared.once.OnceBlock.TheVariants as block;
 ghost use Rattle.thr_parts.specs.declared.row.RowId.TheVariants.{Ready, Once};
 ghost use Rattle.thr_parts.specs.Tables.{none};
-ghost use Rattle.thr_parts.specs.Rows.{thread, no_rows, free_row};
+ghost use Rattle.thr_parts.specs.Rows.{thread, no_rows};
+ghost use Rattle.thr_parts.specs.Moves.{free_row};
 ghost use Rattle.thr_parts.specs.Keys.{no_onces, keycreate, setspecific, getspecific, next_destructor};
 ghost use Rattle.thr_parts.specs.OnceBlocks.{enter, done, undone};
 ghost use Rattle.thr_parts.specs.Samples.{alone, name, rows, running_at, standing_in, blocks, keys, key};
@@ -93,8 +94,8 @@ pub fn values_of_keys()
 pub fn destructors()
     ensures least { next_destructor
         (keys
-            ((60, key (Some (name 70)) ((1, pos 4) ∷ (2, pos 6) ∷ [])) ∷ (61, key (Some (name 71)) ((1, pos 5) ∷ []))
-                ∷ [])) (thread 1)
+        ((60, key (Some (name 70)) ((1, pos 4) ∷ (2, pos 6) ∷ [])) ∷ (61, key (Some (name 71)) ((1, pos 5) ∷ []))
+        ∷ [])) (thread 1)
         ≡ record {
           onces = keys
               ((60, key (Some (name 70)) ((2, pos 6) ∷ [])) ∷ (61, key (Some (name 71)) ((1, pos 5) ∷ [])) ∷ []);
@@ -102,12 +103,12 @@ pub fn destructors()
         } }
     ensures passed_over { next_destructor
         (keys
-            ((60, key None ((1, pos 4) ∷ [])) ∷ (61, key (Some (name 70)) ((2, pos 6) ∷ []))
-                ∷ (62, key (Some (name 71)) ((1, negsuc 2) ∷ [])) ∷ [])) (thread 1)
+        ((60, key None ((1, pos 4) ∷ [])) ∷ (61, key (Some (name 70)) ((2, pos 6) ∷ []))
+        ∷ (62, key (Some (name 71)) ((1, negsuc 2) ∷ [])) ∷ [])) (thread 1)
         ≡ record {
           onces = keys
               ((60, key None ((1, pos 4) ∷ [])) ∷ (61, key (Some (name 70)) ((2, pos 6) ∷ []))
-                  ∷ (62, key (Some (name 71)) none) ∷ []);
+              ∷ (62, key (Some (name 71)) none) ∷ []);
           call = Some (name 62, name 71, negsuc 2);
         } }
     ensures none { next_destructor

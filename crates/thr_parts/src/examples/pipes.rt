@@ -6,7 +6,8 @@ ghost use Rattle.thr_syntax.specs.declared.tree.Item.TheVariants as item;
 ghost use Rattle.thr_parts.specs.declared.row.RowId.TheVariants.{Ready, Reader, Writer, Time};
 ghost use Rattle.thr_parts.specs.Tables.{none};
 ghost use Rattle.thr_parts.specs.Rows.{thread, no_rows};
-ghost use Rattle.thr_parts.specs.Pipes.{first_pipes, read, write, close, close_out, pull_out};
+ghost use Rattle.thr_parts.specs.Pipes.{first_pipes, read, write};
+ghost use Rattle.thr_parts.specs.Closing.{close, close_out, pull_out};
 ghost use Rattle.thr_parts.specs.Samples.{alone, name, rows, running_at, standing_in, pipes, writer};
 
 /// Every declared pipe is open and empty at the opening.
@@ -28,8 +29,8 @@ pub fn reads()
         } }
     ensures relieves { read (pipes 2 true (pos 7 ∷ pos 8 ∷ []) ((2, writer 5) ∷ (3, writer 6) ∷ []))
         (rows 3
-            ((1, running_at 0 116 8) ∷ (2, standing_in (Writer (name 40)) 116 2)
-                ∷ (3, standing_in (Writer (name 40)) 116 1) ∷ [])) (name 40) (thread 1) 116
+        ((1, running_at 0 116 8) ∷ (2, standing_in (Writer (name 40)) 116 2)
+        ∷ (3, standing_in (Writer (name 40)) 116 1) ∷ [])) (name 40) (thread 1) 116
         ≡ record {
           reply = reply.Value (pos 7);
           pipes = pipes 2 true (pos 8 ∷ pos 6 ∷ []) ((2, writer 5) ∷ []);
@@ -56,8 +57,8 @@ pub fn writes()
         ≡ record { reply = reply.Epipe; pipes = pipes 2 false [] none; rows = alone; reader = None } }
     ensures to_reader { write (pipes 2 true [] none)
         (rows 3
-            ((1, running_at 0 116 8) ∷ (2, standing_in (Reader (name 40)) 116 2)
-                ∷ (3, standing_in (Reader (name 40)) 120 2) ∷ [])) (name 40) (pos 9) (thread 1) 116
+        ((1, running_at 0 116 8) ∷ (2, standing_in (Reader (name 40)) 116 2)
+        ∷ (3, standing_in (Reader (name 40)) 120 2) ∷ [])) (name 40) (pos 9) (thread 1) 116
         ≡ record {
           reply = reply.Done;
           pipes = pipes 2 true [] none;
@@ -91,15 +92,15 @@ pub fn closings()
     ensures waiters { close_out (λ t. 100 + t.0)
         (pipes 2 true (pos 7 ∷ pos 8 ∷ []) ((4, writer 5) ∷ (5, writer 6) ∷ []))
         (rows 4
-            ((1, running_at 0 101 8) ∷ (2, standing_in (Reader (name 40)) 102 0)
-                ∷ (3, standing_in (Reader (name 40)) 103 1) ∷ (4, standing_in (Writer (name 40)) 104 2)
-                ∷ (5, standing_in (Writer (name 40)) 104 3) ∷ [])) (name 40)
+        ((1, running_at 0 101 8) ∷ (2, standing_in (Reader (name 40)) 102 0)
+        ∷ (3, standing_in (Reader (name 40)) 103 1) ∷ (4, standing_in (Writer (name 40)) 104 2)
+        ∷ (5, standing_in (Writer (name 40)) 104 3) ∷ [])) (name 40)
         ≡ record {
           reply = reply.Done;
           pipes = pipes 2 false (pos 7 ∷ pos 8 ∷ []) none;
           rows = rows 8
               ((1, running_at 0 101 8) ∷ (2, standing_in Ready 102 5) ∷ (3, standing_in Ready 103 4)
-                  ∷ (4, standing_in Ready 104 6) ∷ (5, standing_in Ready 105 7) ∷ []);
+              ∷ (4, standing_in Ready 104 6) ∷ (5, standing_in Ready 105 7) ∷ []);
           readers = thread 3 ∷ thread 2 ∷ [];
           writers = thread 4 ∷ thread 5 ∷ [];
         } }

@@ -5,7 +5,8 @@ ghost use Rattle.thr_values.specs.Ranks.{rank_of};
 ghost use Rattle.thr_values.specs.declared.scheduling.Policy.TheVariants.{Fifo, Rr, Fg, Bg};
 ghost use Rattle.thr_parts.specs.declared.row.RowId.TheVariants.{Ready, Mutex, Global, Cond};
 ghost use Rattle.thr_parts.specs.Tables.{IsCanonical};
-ghost use Rattle.thr_parts.specs.Rows.{Rows, thread, no_rows, best, best_first, before, row_of, put_in_row, take_out, leave, block_in, set_rank, free_row};
+ghost use Rattle.thr_parts.specs.Rows.{Rows, thread, no_rows, best, best_first, before, row_of};
+ghost use Rattle.thr_parts.specs.Moves.{put_in_row, take_out, leave, block_in, set_rank, free_row};
 ghost use Rattle.thr_parts.specs.Dispatch.{running, dispatch, keeps};
 ghost use Rattle.thr_parts.specs.Samples.{alone, name, rows, running_at, standing_in};
 
@@ -14,13 +15,13 @@ ghost use Rattle.thr_parts.specs.Samples.{alone, name, rows, running_at, standin
 pub fn the_best_of_a_row()
     ensures best { best
         (rows 10
-            ((1, standing_in Ready 116 5) ∷ (2, standing_in Ready 116 3) ∷ (3, standing_in Ready 120 9)
-                ∷ (4, standing_in (Mutex (name 10)) 231 1) ∷ [])) Ready
+        ((1, standing_in Ready 116 5) ∷ (2, standing_in Ready 116 3) ∷ (3, standing_in Ready 120 9)
+        ∷ (4, standing_in (Mutex (name 10)) 231 1) ∷ [])) Ready
         ≡ Some (thread 3) }
     ensures all { best_first
         (rows 10
-            ((1, standing_in Ready 116 5) ∷ (2, standing_in Ready 116 3) ∷ (3, standing_in Ready 120 9)
-                ∷ (4, standing_in (Mutex (name 10)) 231 1) ∷ [])) Ready
+        ((1, standing_in Ready 116 5) ∷ (2, standing_in Ready 116 3) ∷ (3, standing_in Ready 120 9)
+        ∷ (4, standing_in (Mutex (name 10)) 231 1) ∷ [])) Ready
         ≡ thread 3 ∷ thread 2 ∷ thread 1 ∷ [] }
     ensures other { best
         (rows 10 ((1, standing_in (Mutex (name 11)) 116 5) ∷ (4, standing_in (Mutex (name 10)) 100 1) ∷ []))
@@ -60,12 +61,12 @@ pub fn arrivals()
     ensures no_row { row_of (rows 2 ((1, standing_in Ready 50 1) ∷ (2, running_at 0 50 8) ∷ [])) (thread 2) ≡ None }
     ensures freed { free_row (λ _. 116)
         (rows 6
-            ((1, standing_in Global 116 4) ∷ (2, standing_in Global 116 3) ∷ (3, standing_in Ready 116 2)
-                ∷ (4, standing_in Global 120 5) ∷ [])) Global
+        ((1, standing_in Global 116 4) ∷ (2, standing_in Global 116 3) ∷ (3, standing_in Ready 116 2)
+        ∷ (4, standing_in Global 120 5) ∷ [])) Global
         ≡ record {
           rows = rows 9
               ((1, standing_in Ready 116 8) ∷ (2, standing_in Ready 116 7) ∷ (3, standing_in Ready 116 2)
-                  ∷ (4, standing_in Ready 116 6) ∷ []);
+              ∷ (4, standing_in Ready 116 6) ∷ []);
           woken = thread 4 ∷ thread 2 ∷ thread 1 ∷ [];
         } }
 {}

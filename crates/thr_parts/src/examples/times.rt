@@ -8,7 +8,7 @@ ghost use Rattle.thr_parts.specs.declared.wait.Wait.TheVariants.{Cond, Delay};
 ghost use Rattle.thr_parts.specs.Rows.{thread};
 ghost use Rattle.thr_parts.specs.Times.{expiration};
 ghost use Rattle.thr_parts.specs.Conditions.{delay};
-ghost use Rattle.thr_parts.specs.Waking.{earliest, expire, expire_all};
+ghost use Rattle.thr_parts.specs.Expiry.{earliest, expire, expire_all};
 ghost use Rattle.thr_parts.specs.Samples.{alone, name, rows, running_at, standing_in, free, held, locks, conds};
 
 /// Delays and expirations, up to the greatest number.
@@ -38,15 +38,15 @@ pub fn intervals()
 pub fn times()
     ensures earliest { earliest
         (conds
-            ((1, Delay (pos 15)) ∷ (2, Cond (name 20) (name 10) (Some (pos 12))) ∷ (3, Cond (name 20) (name 10) None)
-                ∷ []))
+        ((1, Delay (pos 15)) ∷ (2, Cond (name 20) (name 10) (Some (pos 12))) ∷ (3, Cond (name 20) (name 10) None)
+        ∷ []))
         ≡ Some (pos 12) }
     ensures no_time { earliest (conds ((3, Cond (name 20) (name 10) None) ∷ [])) ≡ None }
     ensures best { expire
         (conds ((1, Delay (pos 12)) ∷ (2, Cond (name 20) (name 10) (Some (pos 12))) ∷ (3, Delay (pos 13)) ∷ []))
         (rows 3
-            ((1, standing_in row.Time 116 1) ∷ (2, standing_in (row.Cond (name 20)) 116 0)
-                ∷ (3, standing_in row.Time 231 2) ∷ [])) (pos 12)
+        ((1, standing_in row.Time 116 1) ∷ (2, standing_in (row.Cond (name 20)) 116 0)
+        ∷ (3, standing_in row.Time 231 2) ∷ [])) (pos 12)
         ≡ record {
           conds = conds ((1, Delay (pos 12)) ∷ (3, Delay (pos 13)) ∷ []);
           rows = rows 3 ((1, standing_in row.Time 116 1) ∷ (3, standing_in row.Time 231 2) ∷ []);
@@ -68,20 +68,20 @@ pub fn times()
 pub fn equal_times()
     ensures free { expire_all (λ _. 116)
         (conds
-            ((2, Cond (name 20) (name 10) (Some (pos 20))) ∷ (3, Cond (name 21) (name 10) (Some (pos 20)))
-                ∷ (4, Delay (pos 20)) ∷ (5, Delay (pos 21)) ∷ (6, Cond (name 20) (name 10) None) ∷ []))
+        ((2, Cond (name 20) (name 10) (Some (pos 20))) ∷ (3, Cond (name 21) (name 10) (Some (pos 20)))
+        ∷ (4, Delay (pos 20)) ∷ (5, Delay (pos 21)) ∷ (6, Cond (name 20) (name 10) None) ∷ []))
         (locks ((10, free Fast) ∷ []))
         (rows 5
-            ((2, standing_in (row.Cond (name 20)) 116 4) ∷ (3, standing_in (row.Cond (name 21)) 116 2)
-                ∷ (4, standing_in row.Time 116 3) ∷ (5, standing_in row.Time 116 0)
-                ∷ (6, standing_in (row.Cond (name 20)) 116 1) ∷ [])) (pos 20)
+        ((2, standing_in (row.Cond (name 20)) 116 4) ∷ (3, standing_in (row.Cond (name 21)) 116 2)
+        ∷ (4, standing_in row.Time 116 3) ∷ (5, standing_in row.Time 116 0)
+        ∷ (6, standing_in (row.Cond (name 20)) 116 1) ∷ [])) (pos 20)
         ≡ record {
           conds = conds ((5, Delay (pos 21)) ∷ (6, Cond (name 20) (name 10) None) ∷ []);
           locks = locks ((10, held Fast 3 1) ∷ []);
           rows = rows 8
               ((2, standing_in (row.Mutex (name 10)) 116 7) ∷ (3, standing_in row.Ready 116 5)
-                  ∷ (4, standing_in row.Ready 116 6) ∷ (5, standing_in row.Time 116 0)
-                  ∷ (6, standing_in (row.Cond (name 20)) 116 1) ∷ []);
+              ∷ (4, standing_in row.Ready 116 6) ∷ (5, standing_in row.Time 116 0)
+              ∷ (6, standing_in (row.Cond (name 20)) 116 1) ∷ []);
           woken = (thread 3, Some (name 10)) ∷ (thread 4, None) ∷ (thread 2, Some (name 10)) ∷ [];
           gifts = (thread 3, name 10) ∷ [];
         } }
