@@ -134,12 +134,12 @@ timedwait_reply said is_past = said
 abbrev pub begin_wait : Conds → Locks → Rows → NameId → NameId → Option ℤ → Tid → ℕ → Reply → Waited
 begin_wait cs ls rs c m until t rank said =
     let waiting : Rows = block_if (is_blocks said) rs (row.Cond c) t rank in
-    let heir : Option Tid = keep_if (is_blocks said) (best waiting (row.Mutex m)) in record {
+    let next : Option Tid = keep_if (is_blocks said) (best waiting (row.Mutex m)) in record {
       reply = said;
       conds = record { made = cs.made; waits = put_if cs.waits t.0 (keep_if (is_blocks said) (Some (Cond c m until))) };
-      locks = with_mutex ls (Some m) (keep_if (is_blocks said) (option_map (as_unlocked heir) (mutex_at ls (Some m))));
-      rows = take_out_if waiting heir;
-      given = heir;
+      locks = with_mutex ls (Some m) (keep_if (is_blocks said) (option_map (as_unlocked next) (mutex_at ls (Some m))));
+      rows = take_out_if waiting next;
+      given = next;
     }
 
 -- A thread waits on a condition and gives its mutex up (docs/machine.md, "Conditions").

@@ -8,7 +8,7 @@ use Rattle.thr_parts.specs.declared.row.Place.{Place}
 use Rattle.thr_parts.specs.declared.row.Place.TheVariants.{Runs, Stands}
 use Rattle.thr_parts.specs.declared.row.Seat.{Seat}
 use Rattle.thr_parts.specs.Tables.{Table, put, put_if}
-use Rattle.thr_parts.specs.Rows.{Rows, Seated, seat_of, is_running, standing, best_of, number_in}
+use Rattle.thr_parts.specs.Rows.{Rows, Seated, seat_of, is_same_row, is_running, standing, best_of, number_in}
 
 -- How many turns a thread has that takes a processor or begins a new slice (docs/machine.md, "Dispatch and slices").
 abbrev pub whole_slice : ℕ
@@ -27,6 +27,15 @@ first (e ∷ es) = Some e
 -- The thread that a processor has (docs/machine.md, "Dispatch and slices").
 unfoldable pub running : Rows → ℕ → Option Tid
 running rs p = number_in (first (filter (λ e. runs_on p e.1.place) rs.seats))
+
+-- The thread at this place can run: it is ready or runs.
+abbrev pub can_run : Place → Bool
+can_run (Runs p slice) = true
+can_run (Stands r arrival) = is_same_row r row.Ready
+
+-- Some thread is ready or runs (docs/machine.md, "Stops").
+abbrev pub some_can_run : Rows → Bool
+some_can_run rs = list_any (λ e. can_run e.1.place) rs.seats
 
 -- ---- dispatch
 

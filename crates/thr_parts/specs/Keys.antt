@@ -81,37 +81,37 @@ getspecific os k t = value_reply (get os.keys k.0) t
 -- ---- destructors
 
 -- A key, its destructor, and the value with which that is called.
-abbrev pub Call : Type 0
-Call = NameId × NameId × ℤ
+abbrev pub DestructorCall : Type 0
+DestructorCall = NameId × NameId × ℤ
 
 -- The call of the destructor that is there with this value, unless that is 0.
-abbrev pub called_with : ℕ → Option NameId → ℤ → Option Call
+abbrev pub called_with : ℕ → Option NameId → ℤ → Option DestructorCall
 called_with k None v = None
 called_with k (Some routine) v = if is_zero v then None else Some (record { 0 = k }, routine, v)
 
 -- The call of a key's destructor for a thread, where it has one and the thread's value isn't 0 (docs/machine.md, "Keys").
-abbrev pub call_for : Tid → ℕ × Key → Option Call
+abbrev pub call_for : Tid → ℕ × Key → Option DestructorCall
 call_for t e = called_with e.0 e.1.destructor (value_in e.1 t)
 
 -- The call of the key of least number that has one (docs/machine.md, "Keys").
-unfoldable pub first_call : Tid → Table Key → Option Call
+unfoldable pub first_call : Tid → Table Key → Option DestructorCall
 first_call t [] = None
 first_call t (e ∷ es) = option_or (call_for t e) (first_call t es)
 
 -- The keys with the value 0 for the thread at the key that is called.
-abbrev pub keys_called : Table Key → Tid → Option Call → Table Key
+abbrev pub keys_called : Table Key → Tid → Option DestructorCall → Table Key
 keys_called keys t None = keys
 keys_called keys t (Some c) = put_if keys c.0.0 (option_map (as_valued t (pos 0)) (get keys c.0.0))
 
 -- Once blocks and keys after an ending thread was to call a destructor, and the call.
 pub record NextDestructor : Type 0 where
   pub onces : Onces
-  pub call : Option Call
+  pub call : Option DestructorCall
 
 -- The destructor that an ending thread calls next; its value becomes 0 (docs/machine.md, "Keys").
 abbrev pub next_destructor : Onces → Tid → NextDestructor
 next_destructor os t =
-    let next : Option Call = first_call t os.keys in record {
+    let next : Option DestructorCall = first_call t os.keys in record {
       onces = with_keys os (keys_called os.keys t next);
       call = next;
     }

@@ -105,13 +105,13 @@ one_less h = record { owner = h.owner; depth = h.depth - 1 }
 abbrev pub owned_by : Tid → Held
 owned_by t = record { owner = t; depth = 1 }
 
--- Who owns it after an unlock: the heir that is there where it was given up (docs/machine.md, "Mutexes").
+-- Who owns it after an unlock: the next owner where it was given up and one is there (docs/machine.md, "Mutexes").
 abbrev pub held_after : Option Tid → Option Held → Option Held
-held_after heir h = if is_last h then option_map owned_by heir else option_map one_less h
+held_after next h = if is_last h then option_map owned_by next else option_map one_less h
 
 -- The mutex after an unlock.
 abbrev pub as_unlocked : Option Tid → Mutex → Mutex
-as_unlocked heir x = record { kind = x.kind; held = held_after heir x.held }
+as_unlocked next x = record { kind = x.kind; held = held_after next x.held }
 
 -- The same, with the thread that has the mutex now, taken out of its row.
 pub record Unlocked : Type 0 where
@@ -125,11 +125,11 @@ pub record Unlocked : Type 0 where
 abbrev pub unlock : Locks → Rows → Option NameId → Tid → Unlocked
 unlock ls rs m t =
     let said : Reply = unlock_reply (mutex_at ls m) t in
-    let heir : Option Tid = keep_if (is_done said && is_last (owner ls m)) (best rs (waiters_row m)) in record {
+    let next : Option Tid = keep_if (is_done said && is_last (owner ls m)) (best rs (waiters_row m)) in record {
       reply = said;
-      locks = with_mutex ls m (keep_if (is_done said) (option_map (as_unlocked heir) (mutex_at ls m)));
-      rows = take_out_if rs heir;
-      given = heir;
+      locks = with_mutex ls m (keep_if (is_done said) (option_map (as_unlocked next) (mutex_at ls m)));
+      rows = take_out_if rs next;
+      given = next;
     }
 
 -- ---- a thread that left a condition

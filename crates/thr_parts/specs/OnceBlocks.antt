@@ -53,14 +53,14 @@ blocks_undone blocks o (Some t) = put blocks o.0 (block.Running t)
 pub record Undone : Type 0 where
   pub onces : Onces
   pub rows : Rows
-  pub heir : Option Tid
+  pub runner : Option Tid
 
 -- The routine was unwound: the best waiter holds the block, and without one it is as not run (docs/machine.md, "Once
 -- blocks").
 abbrev pub undone : Onces → Rows → NameId → Undone
 undone os rs o =
-    let heir : Option Tid = best rs (row.Once o) in record {
-      onces = with_blocks os (blocks_undone os.blocks o heir);
-      rows = take_out_if rs heir;
-      heir = heir;
+    let next : Option Tid = best rs (row.Once o) in record {
+      onces = with_blocks os (blocks_undone os.blocks o next);
+      rows = take_out_if rs next;
+      runner = next;
     }

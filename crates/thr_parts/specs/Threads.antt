@@ -1,5 +1,6 @@
 -- Records of threads: who is created, joined, detached and ended (docs/machine.md, "Thread records").
-use Rattle.std.specs.Prelude.{ℕ, ◌+◌, ◌==◌, nat_lt, Bool, true, false, is_some, if◌then◌else◌, ℤ, pos, negsuc, length, Option, Some, None}
+use Rattle.std.specs.Prelude.{ℕ, ◌+◌, ◌==◌, nat_lt, Bool, true, false, is_some, is_none, if◌then◌else◌, ℤ, pos, negsuc, List, map, length, Option, Some, None}
+use Rattle.std.specs.List.{filter}
 use Rattle.std.specs.Option.{option_map}
 use Rattle.thr_values.specs.Ranks.{rank_of}
 use Rattle.thr_values.specs.declared.number.Tid.{Tid}
@@ -87,6 +88,14 @@ rank_in (Some th) = rank_of th.policy th.prio
 -- The rank of a thread (docs/machine.md, "Ranks and arrivals").
 abbrev pub rank_at : Threads → Tid → ℕ
 rank_at ths t = rank_in (record_at ths t)
+
+-- The thread of a record has not ended.
+abbrev pub is_live : ℕ × Thread → Bool
+is_live e = is_none e.1.ended
+
+-- The threads that have not ended, the least first (docs/machine.md, "Stops").
+abbrev pub live : Threads → List Tid
+live ths = map (λ e. thread e.0) (filter is_live ths.records)
 
 -- ---- create
 

@@ -8,6 +8,7 @@ ghost use Rattle.thr_parts.specs.declared.row.RowId.TheVariants as row;
 ghost use Rattle.thr_parts.specs.declared.wait.Wait.TheVariants.{Cond, Delay};
 ghost use Rattle.thr_parts.specs.Tables.{none};
 ghost use Rattle.thr_parts.specs.Rows.{thread, no_rows};
+ghost use Rattle.thr_parts.specs.Moves.{make_ready};
 ghost use Rattle.thr_parts.specs.Cancels.{cancel, waits_at_point};
 ghost use Rattle.thr_parts.specs.Locking.{regain};
 ghost use Rattle.thr_parts.specs.Conditions.{no_conds, cond_init, cond_destroy, wait, timedwait, waits_with};
@@ -113,6 +114,16 @@ pub fn begun_waits()
               ((1, standing_in (row.Cond (name 20)) 116 3) ∷ (2, standing_in (row.Mutex (name 10)) 100 1) ∷ []);
           given = Some (thread 3);
         } }
+{}
+
+/// A thread that waits and gives its mutex up has its arrival before the one that is handed the mutex.
+#[tactic(auto, unfolding(crate::specs::Computing::parts_words))]
+pub fn arrivals_at_a_wait()
+    ensures { make_ready (λ _. 116)
+        (wait (conds []) (locks ((10, held Fast 1 1) ∷ []))
+            (rows 3 ((1, running_at 0 116 1) ∷ (2, standing_in (row.Mutex (name 10)) 116 0) ∷ []))
+            (name 20) (name 10) (thread 1) 116).rows (thread 2)
+        ≡ rows 5 ((1, standing_in (row.Cond (name 20)) 116 3) ∷ (2, standing_in row.Ready 116 4) ∷ []) }
 {}
 
 /// A signal takes the best waiter out of the condition.

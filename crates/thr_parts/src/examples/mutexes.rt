@@ -5,6 +5,8 @@ ghost use Rattle.thr_values.specs.declared.reply.Kind.TheVariants.{Fast, Recursi
 ghost use Rattle.thr_values.specs.declared.reply.Reply.TheVariants as reply;
 ghost use Rattle.thr_parts.specs.declared.row.RowId.TheVariants.{Ready, Mutex, Global};
 ghost use Rattle.thr_parts.specs.Rows.{thread, no_rows};
+ghost use Rattle.thr_parts.specs.Moves.{make_ready};
+ghost use Rattle.thr_parts.specs.Dispatch.{keeps};
 ghost use Rattle.thr_parts.specs.Mutexes.{no_locks, mutexattr_create, mutexattr_delete, setkind, init, destroy, owner};
 ghost use Rattle.thr_parts.specs.Locking.{lock, trylock, unlock, regain};
 ghost use Rattle.thr_parts.specs.Samples.{alone, name, rows, running_at, standing_in, free, held, locks, kinds, global};
@@ -136,6 +138,17 @@ pub fn unlocked_mutexes()
           rows = rows 3 ((3, standing_in (Mutex (name 10)) 116 0) ∷ []);
           given = Some (thread 4);
         } }
+{}
+
+/// A thread that was handed a mutex becomes ready before its giver, which gives its processor up.
+#[tactic(auto, unfolding(crate::specs::Computing::parts_words))]
+pub fn arrivals_at_a_hand_over()
+    ensures { (keeps
+        (make_ready (λ _. 116)
+            (unlock (locks ((10, held Fast 1 1) ∷ []))
+                (rows 3 ((1, running_at 0 116 1) ∷ (2, standing_in (Mutex (name 10)) 116 0) ∷ []))
+                (Some (name 10)) (thread 1)).rows (thread 2)) (thread 1) false).rows
+        ≡ rows 5 ((1, standing_in Ready 116 4) ∷ (2, standing_in Ready 116 3) ∷ []) }
 {}
 
 /// The global lock is as a recursive mutex that is always made.

@@ -55,14 +55,14 @@ pub fn ended_routines()
         ≡ record {
           onces = blocks ((50, block.Running (thread 3)) ∷ []);
           rows = rows 5 ((2, standing_in (Once (name 50)) 102 3) ∷ []);
-          heir = Some (thread 3);
+          runner = Some (thread 3);
         } }
     ensures undone_alone { undone (blocks ((50, block.Running (thread 1)) ∷ (51, block.Done) ∷ []))
         (rows 5 ((2, standing_in (Once (name 51)) 102 3) ∷ [])) (name 50)
         ≡ record {
           onces = blocks ((51, block.Done) ∷ []);
           rows = rows 5 ((2, standing_in (Once (name 51)) 102 3) ∷ []);
-          heir = None;
+          runner = None;
         } }
 {}
 

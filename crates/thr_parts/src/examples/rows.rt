@@ -7,7 +7,7 @@ ghost use Rattle.thr_parts.specs.declared.row.RowId.TheVariants.{Ready, Mutex, G
 ghost use Rattle.thr_parts.specs.Tables.{IsCanonical};
 ghost use Rattle.thr_parts.specs.Rows.{Rows, thread, no_rows, best, best_first, before, row_of};
 ghost use Rattle.thr_parts.specs.Moves.{put_in_row, take_out, leave, block_in, set_rank, free_row};
-ghost use Rattle.thr_parts.specs.Dispatch.{running, dispatch, keeps};
+ghost use Rattle.thr_parts.specs.Dispatch.{running, some_can_run, dispatch, keeps};
 ghost use Rattle.thr_parts.specs.Samples.{alone, name, rows, running_at, standing_in};
 
 /// Greater rank comes first, and among equals the lesser arrival.
@@ -44,6 +44,8 @@ pub fn arrivals()
         ≡ rows 2 ((1, standing_in Global 50 1) ∷ (2, standing_in Ready 116 0) ∷ []) }
     ensures blocks { block_in (rows 7 ((1, running_at 0 116 5) ∷ [])) Global (thread 1) 116
         ≡ rows 8 ((1, standing_in Global 116 7) ∷ []) }
+    ensures yields { block_in (rows 7 ((1, running_at 0 116 5) ∷ [])) Ready (thread 1) 116
+        ≡ rows 8 ((1, standing_in Ready 116 7) ∷ []) }
     ensures out { take_out (rows 2 ((1, standing_in Global 50 1) ∷ (2, standing_in Ready 116 0) ∷ [])) (thread 1)
         ≡ record { rows = rows 2 ((2, standing_in Ready 116 0) ∷ []); stood = true } }
     ensures runs { take_out (rows 2 ((1, running_at 0 50 1) ∷ [])) (thread 1)
@@ -69,6 +71,14 @@ pub fn arrivals()
               ∷ (4, standing_in Ready 116 6) ∷ []);
           woken = thread 4 ∷ thread 2 ∷ thread 1 ∷ [];
         } }
+{}
+
+/// Whether a thread is ready or runs.
+#[tactic(auto, unfolding(crate::specs::Computing::parts_words))]
+pub fn threads_that_can_run()
+    ensures runs { some_can_run (rows 1 ((1, standing_in Global 50 0) ∷ (2, running_at 0 50 8) ∷ [])) ≡ true }
+    ensures ready { some_can_run (rows 1 ((1, standing_in Global 50 0) ∷ (2, standing_in Ready 50 1) ∷ [])) ≡ true }
+    ensures none { some_can_run (rows 1 ((1, standing_in Global 50 0) ∷ [])) ≡ false }
 {}
 
 /// A processor without a thread takes the best ready one with eight turns.

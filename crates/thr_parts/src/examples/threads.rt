@@ -5,9 +5,9 @@ ghost use Rattle.thr_values.specs.declared.reply.Reply.TheVariants as reply;
 ghost use Rattle.thr_values.specs.declared.scheduling.Policy.TheVariants.{Fifo, Rr, Fg, Bg};
 ghost use Rattle.thr_parts.specs.Tables.{none};
 ghost use Rattle.thr_parts.specs.Rows.{thread};
-ghost use Rattle.thr_parts.specs.Threads.{new_attr, new_thread, first_threads, rank_at, create, join, detach, set_ended};
+ghost use Rattle.thr_parts.specs.Threads.{new_attr, new_thread, first_threads, rank_at, create, join, detach, set_ended, live};
 ghost use Rattle.thr_parts.specs.Scheduling.{setprio, getprio, setscheduler, getscheduler, attr_create, attr_delete, attr_setsched, attr_setprio, attr_setinherit, attr_setstack};
-ghost use Rattle.thr_parts.specs.Samples.{alone, name, threads, with_cell, cell, ended_thread, detached_thread, many_records};
+ghost use Rattle.thr_parts.specs.Samples.{alone, name, threads, with_cell, cell, ended_thread, detached_thread, mode, in_mode, many_records};
 
 /// At the opening there is the first thread alone.
 #[tactic(auto, unfolding(crate::specs::Computing::parts_words))]
@@ -109,6 +109,14 @@ pub fn joins()
         ≡ threads ((1, detached_thread 1) ∷ []) 5 }
 {}
 
+/// The threads that have not ended.
+#[tactic(auto, unfolding(crate::specs::Computing::parts_words))]
+pub fn live_threads()
+    ensures two { live (threads ((1, ended_thread 1 (pos 0)) ∷ (2, detached_thread 2) ∷ (5, in_mode 5 (mode true true true)) ∷ []) 6)
+        ≡ thread 2 ∷ thread 5 ∷ [] }
+    ensures all_ended { live (threads ((1, ended_thread 1 (pos 0)) ∷ []) 6) ≡ [] }
+{}
+
 /// Policies and priorities, the old ones replied.
 #[tactic(auto, unfolding(crate::specs::Computing::parts_words))]
 pub fn policies_and_priorities()
@@ -120,8 +128,11 @@ pub fn policies_and_priorities()
         ≡ record { reply = reply.Einval; threads = threads ((2, new_thread (thread 2) Rr 16 256) ∷ []) 5 } }
     ensures prio_below { (setprio (threads ((2, new_thread (thread 2) Rr 16 256) ∷ []) 5) (pos 2) (negsuc 0)).reply
         ≡ reply.Einval }
-    ensures prio_ended { setprio (threads ((2, ended_thread 2 (pos 7)) ∷ []) 5) (pos 2) (pos 16)
-        ≡ record { reply = reply.Value (pos 16); threads = threads ((2, ended_thread 2 (pos 7)) ∷ []) 5 } }
+    ensures prio_ended { setprio (threads ((2, ended_thread 2 (pos 7)) ∷ []) 5) (pos 2) (pos 20)
+        ≡ record {
+          reply = reply.Value (pos 16);
+          threads = threads ((2, record (ended_thread 2 (pos 7)) { prio = 20 }) ∷ []) 5;
+        } }
     ensures read_prio { getprio (threads ((2, new_thread (thread 2) Rr 16 256) ∷ []) 5) (pos 2) ≡ reply.Value (pos 16) }
     ensures read_prio_none { getprio (threads ((2, new_thread (thread 2) Rr 16 256) ∷ []) 5) (pos 1) ≡ reply.Esrch }
     ensures scheduler { setscheduler (threads ((2, new_thread (thread 2) Rr 16 256) ∷ []) 5) (pos 2) Bg (pos 0)
