@@ -6,3 +6,4 @@ pub mod MoveLaws
 pub mod WakeLaws
 pub mod DueLaws
 pub mod StandingLaws
+pub mod PartLaws

@@ -1,5 +1,5 @@
 -- Pipes that are closed, and waiters that leave them (docs/machine.md, "Pipes").
-use Rattle.std.specs.Prelude.{ℕ, ◌==◌, Bool, true, false, not, if◌then◌else◌, is_some, List, [], ◌++◌, Option, Some}
+use Rattle.std.specs.Prelude.{ℕ, ◌==◌, Bool, true, false, not, if◌then◌else◌, is_some, List, [], Option, Some}
 use Rattle.std.specs.List.{filter}
 use Rattle.thr_values.specs.declared.number.Tid.{Tid}
 use Rattle.thr_values.specs.declared.number.NameId.{NameId}
@@ -9,8 +9,8 @@ use Rattle.thr_parts.specs.declared.pipe.Writing.{Writing}
 use Rattle.thr_parts.specs.declared.row.RowId.{RowId}
 use Rattle.thr_parts.specs.declared.row.RowId.TheVariants as row
 use Rattle.thr_parts.specs.Tables.{Table, put_if, keep_if}
-use Rattle.thr_parts.specs.Rows.{Rows, best_first, row_of}
-use Rattle.thr_parts.specs.Moves.{take_out_if, make_all_ready}
+use Rattle.thr_parts.specs.Rows.{Rows, row_of}
+use Rattle.thr_parts.specs.Moves.{take_out_if, Freed, free_row}
 use Rattle.thr_parts.specs.Pipes.{Pipe, Pipes, pipe_at, writing_without}
 
 -- ---- close
@@ -52,17 +52,27 @@ pub record Closed : Type 0 where
   pub readers : List Tid
   pub writers : List Tid
 
+-- All threads of a row become ready, or none.
+abbrev pub free_if : Bool → (Tid → ℕ) → Rows → RowId → Freed
+free_if frees rank rs r = record {
+  rows = record {
+    seats = if frees then (free_row rank rs r).rows.seats else rs.seats;
+    next_arrival = if frees then (free_row rank rs r).rows.next_arrival else rs.next_arrival;
+  };
+  woken = if frees then (free_row rank rs r).woken else [];
+}
+
 -- A pipe is closed and its waiters become ready, readers first and of both the best first (docs/machine.md, "Pipes").
 abbrev pub close_out : (Tid → ℕ) → Pipes → Rows → NameId → Closed
 close_out rank ps rs p =
     let opened : Bool = (pipe_at ps p).is_open in
-    let readers : List Tid = if opened then best_first rs (row.Reader p) else [] in
-    let writers : List Tid = if opened then best_first rs (row.Writer p) else [] in record {
+    let readers : Freed = free_if opened rank rs (row.Reader p) in
+    let writers : Freed = free_if opened rank readers.rows (row.Writer p) in record {
       reply = (close ps p).reply;
       pipes = (close ps p).pipes;
-      rows = make_all_ready rank rs (readers ++ writers);
-      readers = readers;
-      writers = writers;
+      rows = writers.rows;
+      readers = readers.woken;
+      writers = writers.woken;
     }
 
 -- ---- a waiter that leaves

@@ -11,9 +11,15 @@ ghost use Rattle.thr_parts.specs.Rows.{Rows, seat_of, row_of, is_same_row, befor
 ghost use Rattle.thr_parts.specs.Moves.{put_in_row, take_out, leave, block_in, set_rank, make_ready, make_all_ready, free_row};
 ghost use Rattle.thr_parts.specs.Dispatch.{dispatch, keeps, is_outranked, is_matched};
 ghost use Rattle.thr_parts.specs.Mutexes.{Locks};
-ghost use Rattle.thr_parts.specs.Conditions.{Conds};
-ghost use Rattle.thr_parts.specs.Waking.{wake_all, wake_then};
+ghost use Rattle.thr_parts.specs.Locking.{lock, unlock, regain};
+ghost use Rattle.thr_parts.specs.Conditions.{Conds, wait, timedwait, delay};
+ghost use Rattle.thr_parts.specs.Waking.{wake_all, wake_then, pull_out};
 ghost use Rattle.thr_parts.specs.Expiry.{due, due_first};
+ghost use Rattle.thr_parts.specs.Keys.{Onces};
+ghost use Rattle.thr_parts.specs.OnceBlocks.{enter, undone};
+ghost use Rattle.thr_parts.specs.Pipes.{Pipes, read, write};
+ghost use Rattle.thr_parts.specs.Closing.{close_out};
+ghost use Rattle.thr_parts.specs.CancelledWaits.{cancel_wait};
 
 /// What a table has at a number after a change.
 #[tactic(auto, using(crate::proofs::TableLaws::at_none, crate::proofs::TableLaws::at_put, crate::proofs::TableLaws::at_cut))]
@@ -78,6 +84,41 @@ pub fn rows_stay_canonical()
         → IsCanonical (keeps rs t fifo).rows.seats }
     ensures make_all_ready { (rank : Tid → ℕ) (rs : Rows) (ts : List Tid) → IsCanonical rs.seats
         → IsCanonical (make_all_ready rank rs ts).seats }
+{}
+
+/// The same of whatever calls do.
+#[tactic(auto, using(crate::proofs::PartLaws::canonical_lock, crate::proofs::PartLaws::canonical_unlock, crate::proofs::PartLaws::canonical_regain, crate::proofs::PartLaws::canonical_wait, crate::proofs::PartLaws::canonical_timedwait, crate::proofs::PartLaws::canonical_pull_out, crate::proofs::PartLaws::canonical_wake_all, crate::proofs::PartLaws::canonical_free_row, crate::proofs::PartLaws::canonical_enter, crate::proofs::PartLaws::canonical_read, crate::proofs::PartLaws::canonical_close_out))]
+pub fn calls_keep_rows_canonical()
+    ensures lock { (ls : Locks) (rs : Rows) (m : Option NameId) (t : Tid) (rank : ℕ) → IsCanonical rs.seats
+        → IsCanonical (lock ls rs m t rank).rows.seats }
+    ensures unlock { (ls : Locks) (rs : Rows) (m : Option NameId) (t : Tid) → IsCanonical rs.seats
+        → IsCanonical (unlock ls rs m t).rows.seats }
+    ensures regain { (ls : Locks) (rs : Rows) (m : NameId) (t : Tid) (rank : ℕ) → IsCanonical rs.seats
+        → IsCanonical (regain ls rs m t rank).rows.seats }
+    ensures wait { (cs : Conds) (ls : Locks) (rs : Rows) (c m : NameId) (t : Tid) (rank : ℕ) → IsCanonical rs.seats
+        → IsCanonical (wait cs ls rs c m t rank).rows.seats }
+    ensures timedwait { (cs : Conds) (ls : Locks) (rs : Rows) (c m : NameId) (until now : ℤ) (t : Tid) (rank : ℕ)
+        → IsCanonical rs.seats → IsCanonical (timedwait cs ls rs c m until now t rank).rows.seats }
+    ensures delay { (cs : Conds) (rs : Rows) (ticks now : ℤ) (t : Tid) (rank : ℕ) → IsCanonical rs.seats
+        → IsCanonical (delay cs rs ticks now t rank).rows.seats }
+    ensures pull_out { (cs : Conds) (rs : Rows) (t : Tid) → IsCanonical rs.seats
+        → IsCanonical (pull_out cs rs t).rows.seats }
+    ensures wake_all { (rank : Tid → ℕ) (cs : Conds) (ls : Locks) (rs : Rows) (ts : List Tid) → IsCanonical rs.seats
+        → IsCanonical (wake_all rank cs ls rs ts).rows.seats }
+    ensures free_row { (rank : Tid → ℕ) (rs : Rows) (r : RowId) → IsCanonical rs.seats
+        → IsCanonical (free_row rank rs r).rows.seats }
+    ensures enter { (os : Onces) (rs : Rows) (o : NameId) (t : Tid) (rank : ℕ) → IsCanonical rs.seats
+        → IsCanonical (enter os rs o t rank).rows.seats }
+    ensures undone { (os : Onces) (rs : Rows) (o : NameId) → IsCanonical rs.seats
+        → IsCanonical (undone os rs o).rows.seats }
+    ensures read { (ps : Pipes) (rs : Rows) (p : NameId) (t : Tid) (rank : ℕ) → IsCanonical rs.seats
+        → IsCanonical (read ps rs p t rank).rows.seats }
+    ensures write { (ps : Pipes) (rs : Rows) (p : NameId) (v : ℤ) (t : Tid) (rank : ℕ) → IsCanonical rs.seats
+        → IsCanonical (write ps rs p v t rank).rows.seats }
+    ensures close_out { (rank : Tid → ℕ) (ps : Pipes) (rs : Rows) (p : NameId) → IsCanonical rs.seats
+        → IsCanonical (close_out rank ps rs p).rows.seats }
+    ensures cancel_wait { (rank : Tid → ℕ) (cs : Conds) (ps : Pipes) (ls : Locks) (rs : Rows) (t : Tid)
+        → IsCanonical rs.seats → IsCanonical (cancel_wait rank cs ps ls rs t).rows.seats }
 {}
 
 /// A ready thread has greater rank than this where the best one has; and where none has, one has equal rank where the best

@@ -121,8 +121,8 @@ pub fn begun_waits()
 pub fn arrivals_at_a_wait()
     ensures { make_ready (λ _. 116)
         (wait (conds []) (locks ((10, held Fast 1 1) ∷ []))
-            (rows 3 ((1, running_at 0 116 1) ∷ (2, standing_in (row.Mutex (name 10)) 116 0) ∷ []))
-            (name 20) (name 10) (thread 1) 116).rows (thread 2)
+        (rows 3 ((1, running_at 0 116 1) ∷ (2, standing_in (row.Mutex (name 10)) 116 0) ∷ []))
+        (name 20) (name 10) (thread 1) 116).rows (thread 2)
         ≡ rows 5 ((1, standing_in (row.Cond (name 20)) 116 3) ∷ (2, standing_in row.Ready 116 4) ∷ []) }
 {}
 

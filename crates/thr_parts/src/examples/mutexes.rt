@@ -145,9 +145,9 @@ pub fn unlocked_mutexes()
 pub fn arrivals_at_a_hand_over()
     ensures { (keeps
         (make_ready (λ _. 116)
-            (unlock (locks ((10, held Fast 1 1) ∷ []))
-                (rows 3 ((1, running_at 0 116 1) ∷ (2, standing_in (Mutex (name 10)) 116 0) ∷ []))
-                (Some (name 10)) (thread 1)).rows (thread 2)) (thread 1) false).rows
+        (unlock (locks ((10, held Fast 1 1) ∷ []))
+        (rows 3 ((1, running_at 0 116 1) ∷ (2, standing_in (Mutex (name 10)) 116 0) ∷ []))
+        (Some (name 10)) (thread 1)).rows (thread 2)) (thread 1) false).rows
         ≡ rows 5 ((1, standing_in Ready 116 4) ∷ (2, standing_in Ready 116 3) ∷ []) }
 {}
 
