@@ -1,5 +1,5 @@
 -- What a thread has still to do (docs/machine.md, "What is left to do").
-use Rattle.std.specs.Prelude.{ℕ, ◌+◌, nat_le, ℤ, List, [], ◌∷◌, length, slice_set, Bool, true, false, if◌then◌else◌, Option}
+use Rattle.std.specs.Prelude.{ℕ, ◌-◌, nat_le, ℤ, List, [], ◌∷◌, length, slice_set, Bool, true, false, if◌then◌else◌, Option}
 use Rattle.thr_values.specs.declared.number.NameId.{NameId}
 use Rattle.thr_values.specs.declared.exception.Exc.{Exc}
 use Rattle.thr_values.specs.declared.history.What.{What}
@@ -125,6 +125,9 @@ caught_in (i ∷ items) = caught_or i.role (caught_in items)
 
 -- ---- frames
 
--- So many more frames fit on the stack (docs/machine.md, "Frames").
+-- How many frames of the stack are free (docs/machine.md, "Frames").
+abbrev pub free : Setting → Remainder → ℕ
+free g r = g.size - length r.items
+
 abbrev pub has_room : Setting → Remainder → ℕ → Bool
-has_room g r n = nat_le (length r.items + n) g.size
+has_room g r n = nat_le n (free g r)
