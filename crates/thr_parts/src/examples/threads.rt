@@ -14,6 +14,17 @@ ghost use Rattle.thr_parts.specs.Samples.{alone, name, threads, with_cell, cell,
 pub fn the_first_thread()
     ensures records { first_threads ≡ threads ((1, new_thread (thread 1) Fg 16 256) ∷ []) 2 }
     ensures rank { rank_at first_threads (thread 1) ≡ 116 }
+    ensures new { new_thread (thread 5) Rr 3 64
+        ≡ record {
+          tid = thread 5;
+          policy = Rr;
+          prio = 3;
+          frames = 64;
+          mode = record { pending = false; general = true; asynchronous = false };
+          detached = false;
+          ended = None;
+        } }
+    ensures default { new_attr ≡ cell Fg 16 true 256 }
 {}
 
 /// Cells are created as `default` is, changed and deleted.
