@@ -12,276 +12,281 @@ use thr_wire::mem::{MemSink, MemSource};
 use thr_wire::standard::{StdSink, StdSource};
 use thr_wire::whole::{read_all, write_all};
 
-const USAGE: &str = "usage: dcethr run W | check | verify | report | make N T | trial N W\n";
+const USAGE: &[u8] = b"usage: dcethr run W | check | verify | report | make N T | trial N W\n";
 
-const SEVEN: &str = "dcethr 1\nroutine main a\nsay 7\nend\n";
+const SEVEN: &[u8] = b"dcethr 1\nroutine main a\nsay 7\nend\n";
 
-const SEVEN_JOURNAL: &str =
-    "dcethr journal 1\nworkers 1\nscript 4\ndcethr 1\nroutine main a\nsay 7\nend\nhistory\n1 p0 run t1\n2 t1 say 7\n3 t1 end 0\nstop finished\n";
+const SEVEN_JOURNAL: &[u8] =
+    b"dcethr journal 1\nworkers 1\nscript 4\ndcethr 1\nroutine main a\nsay 7\nend\nhistory\n1 p0 run t1\n2 t1 say 7\n3 t1 end 0\nstop finished\n";
 
-const MANY: &str =
-    "dcethr 1\nroutine main _x9\nsay -9223372036854775808\nsay 9223372036854775807\nsay 0\nend\n";
+const MANY: &[u8] =
+    b"dcethr 1\nroutine main _x9\nsay -9223372036854775808\nsay 9223372036854775807\nsay 0\nend\n";
 
-const MANY_JOURNAL: &str =
-    "dcethr journal 1\nworkers 1\nscript 6\ndcethr 1\nroutine main _x9\nsay -9223372036854775808\nsay 9223372036854775807\nsay 0\nend\nhistory\n1 p0 run t1\n2 t1 say -9223372036854775808\n3 t1 say 9223372036854775807\n4 t1 say 0\n5 t1 end 0\nstop finished\n";
+const MANY_JOURNAL: &[u8] =
+    b"dcethr journal 1\nworkers 1\nscript 6\ndcethr 1\nroutine main _x9\nsay -9223372036854775808\nsay 9223372036854775807\nsay 0\nend\nhistory\n1 p0 run t1\n2 t1 say -9223372036854775808\n3 t1 say 9223372036854775807\n4 t1 say 0\n5 t1 end 0\nstop finished\n";
 
-const NONE_SAID: &str = "dcethr 1\nroutine main a\nend\n";
+const NONE_SAID: &[u8] = b"dcethr 1\nroutine main a\nend\n";
 
-const NONE_SAID_JOURNAL: &str =
-    "dcethr journal 1\nworkers 1\nscript 3\ndcethr 1\nroutine main a\nend\nhistory\n1 p0 run t1\n2 t1 end 0\nstop finished\n";
+const NONE_SAID_JOURNAL: &[u8] =
+    b"dcethr journal 1\nworkers 1\nscript 3\ndcethr 1\nroutine main a\nend\nhistory\n1 p0 run t1\n2 t1 end 0\nstop finished\n";
 
 /// Blocks of each kind, an empty `else`, and lines with each kind of place, in other spellings than the canonical ones.
-const ALL_SORTS: &str =
-    "dcethr 1 # sorts\ninterface status\nlimit 010\nshared x -0\nexception e_1\nstatus s 5\nmutex m\nmutexattr b\ncond c\nattr t\nkey k\nonce o\npipe p 1\n\nroutine w a\nlocal v\n set v + a * -2 not x\nif exc_matches e_1 s\nelse\nend\n\ttry\nraise e_1\ncatch s\nset v exc_get_status this\nreraise\ncatch_all\nendtry\ntry\nwhile < v 3\ncall w err v\nend\nfinally\npthread_mutex_init m default\npthread_mutex_init m b\nendtry\nreturn self\nend\nroutine main a\ncall w 1\npthread_create x t w a\npthread_keycreate k none\npthread_setcancel CANCEL_OFF x\npthread_setscheduler a SCHED_RR 12 x # rr\npthread_exit 0\nend\n";
+const ALL_SORTS: &[u8] =
+    b"dcethr 1 # sorts\ninterface status\nlimit 010\nshared x -0\nexception e_1\nstatus s 5\nmutex m\nmutexattr b\ncond c\nattr t\nkey k\nonce o\npipe p 1\n\nroutine w a\nlocal v\n set v + a * -2 not x\nif exc_matches e_1 s\nelse\nend\n\ttry\nraise e_1\ncatch s\nset v exc_get_status this\nreraise\ncatch_all\nendtry\ntry\nwhile < v 3\ncall w err v\nend\nfinally\npthread_mutex_init m default\npthread_mutex_init m b\nendtry\nreturn self\nend\nroutine main a\ncall w 1\npthread_create x t w a\npthread_keycreate k none\npthread_setcancel CANCEL_OFF x\npthread_setscheduler a SCHED_RR 12 x # rr\npthread_exit 0\nend\n";
 
-const ALL_SORTS_PLAIN: &str =
-    "dcethr 1\ninterface status\nlimit 10\nshared x 0\nexception e_1\nstatus s 5\nmutex m\nmutexattr b\ncond c\nattr t\nkey k\nonce o\npipe p 1\nroutine w a\nlocal v\nset v + a * -2 not x\nif exc_matches e_1 s\nelse\nend\ntry\nraise e_1\ncatch s\nset v exc_get_status this\nreraise\ncatch_all\nendtry\ntry\nwhile < v 3\ncall w err v\nend\nfinally\npthread_mutex_init m default\npthread_mutex_init m b\nendtry\nreturn self\nend\nroutine main a\ncall w 1\npthread_create x t w a\npthread_keycreate k none\npthread_setcancel CANCEL_OFF x\npthread_setscheduler a SCHED_RR 12 x\npthread_exit 0\nend\n";
+const ALL_SORTS_PLAIN: &[u8] =
+    b"dcethr 1\ninterface status\nlimit 10\nshared x 0\nexception e_1\nstatus s 5\nmutex m\nmutexattr b\ncond c\nattr t\nkey k\nonce o\npipe p 1\nroutine w a\nlocal v\nset v + a * -2 not x\nif exc_matches e_1 s\nelse\nend\ntry\nraise e_1\ncatch s\nset v exc_get_status this\nreraise\ncatch_all\nendtry\ntry\nwhile < v 3\ncall w err v\nend\nfinally\npthread_mutex_init m default\npthread_mutex_init m b\nendtry\nreturn self\nend\nroutine main a\ncall w 1\npthread_create x t w a\npthread_keycreate k none\npthread_setcancel CANCEL_OFF x\npthread_setscheduler a SCHED_RR 12 x\npthread_exit 0\nend\n";
 
 /// The words, parted by spaces, the input, and the status and the text that they give.
-const CASES: [(&str, &str, u8, &str); 57] = [
+const CASES: [(&str, &[u8], u8, &[u8]); 57] = [
     ("run 1", SEVEN, 0, SEVEN_JOURNAL),
     ("run 1", MANY, 0, MANY_JOURNAL),
     ("run 1", NONE_SAID, 0, NONE_SAID_JOURNAL),
     // other spellings of the same script
     (
         "run 1",
-        "dcethr 1\nroutine main a\nsay 07\nend\n",
+        b"dcethr 1\nroutine main a\nsay 07\nend\n",
         0,
         SEVEN_JOURNAL,
     ),
     (
         "run 1",
-        "dcethr 1\nroutine main a\nsay  7 # seven\nend",
+        b"dcethr 1\nroutine main a\nsay  7 # seven\nend",
         0,
         SEVEN_JOURNAL,
     ),
     (
         "run 1",
-        "\ndcethr 01\r\nroutine main a\r\n\n\tsay 7\nend\n\n",
+        b"\ndcethr 01\r\nroutine main a\r\n\n\tsay 7\nend\n\n",
         0,
         SEVEN_JOURNAL,
     ),
     // each pass has its faults
-    ("run 1", "", 2, "refused F5 line 1\n"),
-    ("run 1", "\n", 2, "refused F5 line 2\n"),
-    ("run 1", "dcethr 2\n", 2, "refused F5 line 1\n"),
+    ("run 1", b"", 2, b"refused F5 line 1\n"),
+    ("run 1", b"\n", 2, b"refused F5 line 2\n"),
+    ("run 1", b"dcethr 2\n", 2, b"refused F5 line 1\n"),
     (
         "run 1",
-        "dcethr 1\nroutine main a\nsay 9223372036854775808\nend\n",
+        b"dcethr 1\nroutine main a\nsay 9223372036854775808\nend\n",
         2,
-        "refused F3 line 3\n",
+        b"refused F3 line 3\n",
     ),
     (
         "run 1",
-        "dcethr 1\nroutine main a\nsay +7\nend\n",
+        b"dcethr 1\nroutine main a\nsay +7\nend\n",
         2,
-        "refused F6 line 3\n",
+        b"refused F6 line 3\n",
     ),
     (
         "run 1",
-        "dcethr 1\nroutine main a\nsay\nend\n",
+        b"dcethr 1\nroutine main a\nsay\nend\n",
         2,
-        "refused F7 line 3\n",
+        b"refused F7 line 3\n",
     ),
     (
         "run 1",
-        "dcethr 1\nroutine main pthread_yield\nsay 7\nend\n",
+        b"dcethr 1\nroutine main pthread_yield\nsay 7\nend\n",
         2,
-        "refused F6 line 2\n",
+        b"refused F6 line 2\n",
     ),
     (
         "run 1",
-        "dcethr 1\nroutine main 9a\nsay 7\nend\n",
+        b"dcethr 1\nroutine main 9a\nsay 7\nend\n",
         2,
-        "refused F6 line 2\n",
+        b"refused F6 line 2\n",
     ),
     (
         "run 1",
-        "dcethr 1\nroutine main abcdefghijklmnopqrstuvwxy\nend\n",
+        b"dcethr 1\nroutine main abcdefghijklmnopqrstuvwxy\nend\n",
         2,
-        "refused F6 line 2\n",
+        b"refused F6 line 2\n",
     ),
     (
         "run 1",
-        "dcethr 1\nroutine main a\nsay 7\n",
+        b"dcethr 1\nroutine main a\nsay 7\n",
         2,
-        "refused F8 line 4\n",
+        b"refused F8 line 4\n",
     ),
     (
         "run 1",
-        "dcethr 1\nroutine main main\nsay 7\nend\n",
+        b"dcethr 1\nroutine main main\nsay 7\nend\n",
         2,
-        "refused F15 line 2\n",
+        b"refused F15 line 2\n",
     ),
     (
         "run 1",
-        "dcethr 1\nroutine main cancel_e\nsay 7\nend\n",
+        b"dcethr 1\nroutine main cancel_e\nsay 7\nend\n",
         2,
-        "refused F15 line 2\n",
+        b"refused F15 line 2\n",
     ),
     (
         "run 1",
-        "dcethr 1\nroutine main a\nraise a\nend\n",
+        b"dcethr 1\nroutine main a\nraise a\nend\n",
         2,
-        "refused F17 line 3\n",
+        b"refused F17 line 3\n",
     ),
     // a fault of the text comes before a line that is not built
     (
         "run 1",
-        "dcethr 1\nmutex m\nroutine main a\nraise a\nend\n",
+        b"dcethr 1\nmutex m\nroutine main a\nraise a\nend\n",
         2,
-        "refused F17 line 4\n",
+        b"refused F17 line 4\n",
     ),
     (
         "run 1",
-        "\ndcethr 1\n\nmutex m\nroutine main a\nend\n",
+        b"\ndcethr 1\n\nmutex m\nroutine main a\nend\n",
         2,
-        "refused not built line 2\n",
+        b"refused not built line 2\n",
     ),
     (
         "run 1",
-        "dcethr 1\nroutine main a\nlocal t\nend\n",
+        b"dcethr 1\nroutine main a\nlocal t\nend\n",
         2,
-        "refused not built line 3\n",
+        b"refused not built line 3\n",
     ),
     (
         "run 1",
-        "dcethr 1\nroutine main a\nsay 1\nsay a\nend\n",
+        b"dcethr 1\nroutine main a\nsay 1\nsay a\nend\n",
         2,
-        "refused not built line 4\n",
+        b"refused not built line 4\n",
     ),
     (
         "run 1",
-        "dcethr 1\nroutine main a\nwhile 0\nsay 1\nend\nend\n",
+        b"dcethr 1\nroutine main a\nwhile 0\nsay 1\nend\nend\n",
         2,
-        "refused not built line 3\n",
+        b"refused not built line 3\n",
     ),
     (
         "run 1",
-        "dcethr 1\nroutine main a\nend\nroutine w a\nend\n",
+        b"dcethr 1\nroutine main a\nend\nroutine w a\nend\n",
         2,
-        "refused not built line 4\n",
+        b"refused not built line 4\n",
     ),
     // checking
     ("check", SEVEN, 0, SEVEN),
     (
         "check",
-        "dcethr 1\r\n# note\n\troutine  main a\n say -007\nend",
+        b"dcethr 1\r\n# note\n\troutine  main a\n say -007\nend",
         0,
-        "dcethr 1\nroutine main a\nsay -7\nend\n",
+        b"dcethr 1\nroutine main a\nsay -7\nend\n",
     ),
     ("check", ALL_SORTS, 0, ALL_SORTS_PLAIN),
     ("check", ALL_SORTS_PLAIN, 0, ALL_SORTS_PLAIN),
     (
         "check",
-        "dcethr 1\nroutine main a\ntry\nendtry\nend\n",
+        b"dcethr 1\nroutine main a\ntry\nendtry\nend\n",
         2,
-        "refused F12 line 4\n",
+        b"refused F12 line 4\n",
     ),
     (
         "check",
-        "dcethr 1\nroutine main a\ntry\ncatch cancel_e\nfinally\nendtry\nend\n",
+        b"dcethr 1\nroutine main a\ntry\ncatch cancel_e\nfinally\nendtry\nend\n",
         2,
-        "refused F11 line 5\n",
+        b"refused F11 line 5\n",
     ),
     (
         "check",
-        "dcethr 1\nroutine main a\nsay x\nend\n",
+        b"dcethr 1\nroutine main a\nsay x\nend\n",
         2,
-        "refused F16 line 3\n",
+        b"refused F16 line 3\n",
     ),
     (
         "check",
-        "dcethr 1\nroutine main a\nsay x\nend\nend\n",
+        b"dcethr 1\nroutine main a\nsay x\nend\nend\n",
         2,
-        "refused F9 line 5\n",
+        b"refused F9 line 5\n",
     ),
     (
         "check",
-        "dcethr 1\nmutex m\nroutine main a\nset m 1\nend\n",
+        b"dcethr 1\nmutex m\nroutine main a\nset m 1\nend\n",
         2,
-        "refused F17 line 4\n",
+        b"refused F17 line 4\n",
     ),
-    ("check", "dcethr 1\n", 2, "refused F18 line 2\n"),
+    ("check", b"dcethr 1\n", 2, b"refused F18 line 2\n"),
     (
         "check",
-        "dcethr 1\nroutine main a\nsay 9223372036854775808\nend\n",
+        b"dcethr 1\nroutine main a\nsay 9223372036854775808\nend\n",
         2,
-        "refused F3 line 3\n",
+        b"refused F3 line 3\n",
     ),
     // names and limits at their edges
     (
         "check",
-        "dcethr 1\nroutine main a\nset x 1\nend\nshared x 0\n",
+        b"dcethr 1\nroutine main a\nset x 1\nend\nshared x 0\n",
         0,
-        "dcethr 1\nroutine main a\nset x 1\nend\nshared x 0\n",
+        b"dcethr 1\nroutine main a\nset x 1\nend\nshared x 0\n",
     ),
     (
         "check",
-        "dcethr 1\nmutex m\nroutine main a\nset m y\nend\n",
+        b"dcethr 1\nmutex m\nroutine main a\nset m y\nend\n",
         2,
-        "refused F16 line 4\n",
+        b"refused F16 line 4\n",
     ),
     (
         "check",
-        "dcethr 1\nroutine main a\nend\nmutex a\n",
+        b"dcethr 1\nroutine main a\nend\nmutex a\n",
         2,
-        "refused F15 line 2\n",
+        b"refused F15 line 2\n",
     ),
     (
         "check",
-        "dcethr 1\nroutine main a\nend\nroutine main b\nend\n",
+        b"dcethr 1\nroutine main a\nend\nroutine main b\nend\n",
         2,
-        "refused F15 line 4\n",
+        b"refused F15 line 4\n",
     ),
-    ("check", "dcethr 1\nmutex main\n", 2, "refused F18 line 3\n"),
     (
         "check",
-        "dcethr 1\nlimit 0\nroutine main a\nend\n",
+        b"dcethr 1\nmutex main\n",
         2,
-        "refused F18 line 2\n",
+        b"refused F18 line 3\n",
     ),
     (
         "check",
-        "dcethr 1\nlimit 1\nroutine main a\nend\n",
+        b"dcethr 1\nlimit 0\nroutine main a\nend\n",
+        2,
+        b"refused F18 line 2\n",
+    ),
+    (
+        "check",
+        b"dcethr 1\nlimit 1\nroutine main a\nend\n",
         0,
-        "dcethr 1\nlimit 1\nroutine main a\nend\n",
+        b"dcethr 1\nlimit 1\nroutine main a\nend\n",
     ),
     (
         "check",
-        "dcethr 1\nlimit 1000000\nroutine main a\nend\n",
+        b"dcethr 1\nlimit 1000000\nroutine main a\nend\n",
         0,
-        "dcethr 1\nlimit 1000000\nroutine main a\nend\n",
+        b"dcethr 1\nlimit 1000000\nroutine main a\nend\n",
     ),
     (
         "check",
-        "dcethr 1\nlimit 1000001\nroutine main a\nend\n",
+        b"dcethr 1\nlimit 1000001\nroutine main a\nend\n",
         2,
-        "refused F18 line 2\n",
+        b"refused F18 line 2\n",
     ),
     (
         "check",
-        "dcethr 1\npipe p 0\nroutine main a\nend\n",
+        b"dcethr 1\npipe p 0\nroutine main a\nend\n",
         2,
-        "refused F18 line 2\n",
+        b"refused F18 line 2\n",
     ),
     (
         "check",
-        "dcethr 1\npipe p 1\nroutine main a\nend\n",
+        b"dcethr 1\npipe p 1\nroutine main a\nend\n",
         0,
-        "dcethr 1\npipe p 1\nroutine main a\nend\n",
+        b"dcethr 1\npipe p 1\nroutine main a\nend\n",
     ),
     (
         "check",
-        "dcethr 1\npipe p 4096\nroutine main a\nend\n",
+        b"dcethr 1\npipe p 4096\nroutine main a\nend\n",
         0,
-        "dcethr 1\npipe p 4096\nroutine main a\nend\n",
+        b"dcethr 1\npipe p 4096\nroutine main a\nend\n",
     ),
     (
         "check",
-        "dcethr 1\npipe p 4097\nroutine main a\nend\n",
+        b"dcethr 1\npipe p 4097\nroutine main a\nend\n",
         2,
-        "refused F18 line 2\n",
+        b"refused F18 line 2\n",
     ),
     // words of no form
     ("", SEVEN, 1, USAGE),
@@ -307,24 +312,24 @@ fn each_input_gives_its_text(rt: HostRuntime) -> Result<(), Fail> {
     let alloc = rt.alloc();
     for (line, input, status, text) in CASES {
         let words = words_of(alloc, line)?;
-        let mut source = GoodSource::new(Vec::from_slice(alloc, input.as_bytes())?);
+        let mut source = GoodSource::new(Vec::from_slice(alloc, input)?);
         let mut sink = GoodSink::new(alloc);
         let Status(got) = top(alloc, words.as_slice(), &mut source, &mut sink);
-        assert_eq!(rt; got, status, "{line}: {input}");
-        assert_eq!(rt; sink.as_slice(), text.as_bytes(), "{line}: {input}");
+        assert_eq!(rt; got, status, "{input:?}");
+        assert_eq!(rt; sink.as_slice(), text, "{input:?}");
     }
     Ok(())
 }
 
 /// How much the source gives at a call, which of its calls fails, the same of the sink, and the status and what the sink
 /// holds in the end.
-const DEVICES: [(usize, u64, usize, u64, u8, &str); 6] = [
+const DEVICES: [(usize, u64, usize, u64, u8, &[u8]); 6] = [
     (1, NEVER, 1, NEVER, 0, SEVEN_JOURNAL),
     (4096, NEVER, 7, NEVER, 0, SEVEN_JOURNAL),
-    (4096, 0, 4096, NEVER, 3, ""),
-    (1, 9, 4096, NEVER, 3, ""),
-    (4096, NEVER, 5, 1, 4, "dceth"),
-    (4096, NEVER, 4096, 0, 4, ""),
+    (4096, 0, 4096, NEVER, 3, b""),
+    (1, 9, 4096, NEVER, 3, b""),
+    (4096, NEVER, 5, 1, 4, b"dceth"),
+    (4096, NEVER, 4096, 0, 4, b""),
 ];
 
 const NEVER: u64 = u64::MAX;
@@ -335,12 +340,12 @@ fn devices_fail_and_move_little(rt: HostRuntime) -> Result<(), Fail> {
     let words = words_of(alloc, "run 1")?;
     for (gives, reading, takes, writing, status, text) in DEVICES {
         assert!(rt; gives > 0 && takes > 0);
-        let input = Vec::from_slice(alloc, SEVEN.as_bytes())?;
+        let input = Vec::from_slice(alloc, SEVEN)?;
         let mut source = MemSource::new(input, gives, vec![in alloc; reading]?);
         let mut sink = MemSink::new(alloc, takes, vec![in alloc; writing]?);
         let Status(got) = top(alloc, words.as_slice(), &mut source, &mut sink);
         assert_eq!(rt; got, status);
-        assert_eq!(rt; sink.as_slice(), text.as_bytes());
+        assert_eq!(rt; sink.as_slice(), text);
         // Nothing is read after a call that fails.
         assert!(rt; reading == NEVER || source.calls() == reading + 1);
     }
@@ -368,63 +373,81 @@ fn the_limit_on_bytes_is_exact(rt: HostRuntime) -> Result<(), Fail> {
 
 /// A text of repeated lines between others: before, the line, how often, after, and what `check` answers, where the empty text
 /// says that the script is accepted.
-const LIMITS: [(&str, &str, u32, &str, &str); 10] = [
+const LIMITS: [(&[u8], &[u8], u32, &[u8], &[u8]); 10] = [
     // 20,000 lines and one more
-    ("dcethr 1\nroutine main a\n", "say 1\n", 19997, "end\n", ""),
     (
-        "dcethr 1\nroutine main a\n",
-        "say 1\n",
+        b"dcethr 1\nroutine main a\n",
+        b"say 1\n",
+        19997,
+        b"end\n",
+        b"",
+    ),
+    (
+        b"dcethr 1\nroutine main a\n",
+        b"say 1\n",
         19998,
-        "end\n",
-        "refused F18 line 20001\n",
+        b"end\n",
+        b"refused F18 line 20001\n",
     ),
     // blank lines and comments count
-    ("dcethr 1\nroutine main a\n", "\n", 19997, "end\n", ""),
+    (b"dcethr 1\nroutine main a\n", b"\n", 19997, b"end\n", b""),
     (
-        "dcethr 1\nroutine main a\n",
-        "#\n",
+        b"dcethr 1\nroutine main a\n",
+        b"#\n",
         19998,
-        "end\n",
-        "refused F18 line 20001\n",
+        b"end\n",
+        b"refused F18 line 20001\n",
     ),
     (
-        "dcethr 1\nroutine main a\nend\n",
-        "\n",
+        b"dcethr 1\nroutine main a\nend\n",
+        b"\n",
         19998,
-        "",
-        "refused F18 line 20001\n",
+        b"",
+        b"refused F18 line 20001\n",
     ),
     // the parameter is one of 16 locals
-    ("dcethr 1\nroutine main a\n", "local b@\n", 15, "end\n", ""),
     (
-        "dcethr 1\nroutine main a\n",
-        "local b@\n",
+        b"dcethr 1\nroutine main a\n",
+        b"local b@\n",
+        15,
+        b"end\n",
+        b"",
+    ),
+    (
+        b"dcethr 1\nroutine main a\n",
+        b"local b@\n",
         16,
-        "end\n",
-        "refused F18 line 18\n",
+        b"end\n",
+        b"refused F18 line 18\n",
     ),
     // the routine is one of 1,000 declared names
-    ("dcethr 1\n", "mutex m@\n", 999, "routine main a\nend\n", ""),
     (
-        "dcethr 1\n",
-        "mutex m@\n",
-        1000,
-        "routine main a\nend\n",
-        "refused F18 line 1002\n",
+        b"dcethr 1\n",
+        b"mutex m@\n",
+        999,
+        b"routine main a\nend\n",
+        b"",
     ),
     (
-        "dcethr 1\nroutine main a\nend\n",
-        "mutex m@\n",
+        b"dcethr 1\n",
+        b"mutex m@\n",
         1000,
-        "",
-        "refused F18 line 1003\n",
+        b"routine main a\nend\n",
+        b"refused F18 line 1002\n",
+    ),
+    (
+        b"dcethr 1\nroutine main a\nend\n",
+        b"mutex m@\n",
+        1000,
+        b"",
+        b"refused F18 line 1003\n",
     ),
 ];
 
 /// The line with the number at each `@`.
-fn add_numbered(alloc: Global, text: &mut Vec<u8>, line: &str, number: u32) -> Result<(), Fail> {
+fn add_numbered(alloc: Global, text: &mut Vec<u8>, line: &[u8], number: u32) -> Result<(), Fail> {
     let number = number.to_string(alloc)?;
-    for byte in line.as_bytes() {
+    for byte in line {
         if *byte == b'@' {
             text.extend_from_slice(number.as_bytes())?;
         } else {
@@ -437,16 +460,16 @@ fn add_numbered(alloc: Global, text: &mut Vec<u8>, line: &str, number: u32) -> R
 /// The text of so many of these lines between others.
 fn repeated(
     alloc: Global,
-    before: &str,
-    line: &str,
+    before: &[u8],
+    line: &[u8],
     count: u32,
-    after: &str,
+    after: &[u8],
 ) -> Result<Vec<u8>, Fail> {
-    let mut text = Vec::from_slice(alloc, before.as_bytes())?;
+    let mut text = Vec::from_slice(alloc, before)?;
     for number in 0..count {
         add_numbered(alloc, &mut text, line, number)?;
     }
-    text.extend_from_slice(after.as_bytes())?;
+    text.extend_from_slice(after)?;
     Ok(text)
 }
 
@@ -455,7 +478,7 @@ fn the_limits_of_a_script_are_exact(rt: HostRuntime) -> Result<(), Fail> {
     let alloc = rt.alloc();
     let words = words_of(alloc, "check")?;
     for (before, line, count, after, refusal) in LIMITS {
-        let has_words = line != "\n" && line != "#\n";
+        let has_words = matches!(line.first(), Some(byte) if *byte != b'\n' && *byte != b'#');
         let canonical = repeated(
             alloc,
             before,
@@ -467,11 +490,11 @@ fn the_limits_of_a_script_are_exact(rt: HostRuntime) -> Result<(), Fail> {
         let mut sink = GoodSink::new(alloc);
         let Status(got) = top(alloc, words.as_slice(), &mut source, &mut sink);
         if refusal.is_empty() {
-            assert_eq!(rt; got, 0, "{line}: {count}");
-            assert_eq!(rt; sink.as_slice(), canonical.as_slice(), "{line}: {count}");
+            assert_eq!(rt; got, 0, "{count}");
+            assert_eq!(rt; sink.as_slice(), canonical.as_slice(), "{count}");
         } else {
-            assert_eq!(rt; got, 2, "{line}: {count}");
-            assert_eq!(rt; sink.as_slice(), refusal.as_bytes(), "{line}: {count}");
+            assert_eq!(rt; got, 2, "{count}");
+            assert_eq!(rt; sink.as_slice(), refusal, "{count}");
         }
     }
     Ok(())
@@ -543,15 +566,15 @@ fn reads_are_counted(rt: HostRuntime) -> Result<(), Fail> {
 #[test]
 fn standard_devices_move_bytes(rt: HostRuntime) -> Result<(), Fail> {
     let alloc = rt.alloc();
-    let mut source = StdSource::new(SEVEN.as_bytes());
+    let mut source = StdSource::new(SEVEN);
     match read_all(alloc, &mut source, 100) {
-        Ok(bytes) => assert_eq!(rt; bytes.as_slice(), SEVEN.as_bytes()),
+        Ok(bytes) => assert_eq!(rt; bytes.as_slice(), SEVEN),
         Err(_) => assert!(rt; false, "the reader has no fault"),
     }
     let mut written = Vec::new(alloc);
     let mut sink = StdSink::new(&mut written);
-    assert!(rt; write_all(&mut sink, SEVEN.as_bytes()).is_ok());
-    assert_eq!(rt; written.as_slice(), SEVEN.as_bytes());
+    assert!(rt; write_all(&mut sink, SEVEN).is_ok());
+    assert_eq!(rt; written.as_slice(), SEVEN);
     Ok(())
 }
 
@@ -588,7 +611,7 @@ fn standard_devices_tell_their_faults(rt: HostRuntime) -> Result<(), Fail> {
     );
     assert_eq!(rt; unread, 3);
     assert!(rt; sink.as_slice().is_empty());
-    let mut source = GoodSource::new(Vec::from_slice(alloc, SEVEN.as_bytes())?);
+    let mut source = GoodSource::new(Vec::from_slice(alloc, SEVEN)?);
     let Status(unwritten) = top(
         alloc,
         words.as_slice(),
