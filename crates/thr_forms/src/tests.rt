@@ -308,7 +308,7 @@ fn lines_and_their_faults(rt: HostRuntime) -> Result<(), Fail> {
             count = count.wrapping_add(1);
         }
     }
-    assert_eq!(rt; count, 259);
+    assert_eq!(rt; count, 265);
     Ok(())
 }
 
