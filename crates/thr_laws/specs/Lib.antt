@@ -1,0 +1,13 @@
+pub mod Lines
+pub mod Handlers
+pub mod Scopes
+pub mod Routes
+pub mod Routed
+pub mod Owners
+pub mod Known
+pub mod CancelLaw
+pub mod CallsOnce
+pub mod Plain
+pub mod Passing
+pub mod Samples
+pub mod Computing
