@@ -1,5 +1,12 @@
 pub mod Texts
 pub mod Words
-pub mod Numbers
 pub mod Lines
 pub mod Spelled
+pub mod Rows
+pub mod Arguments
+pub mod Resolved
+pub mod Nested
+pub mod Pasted
+pub mod Scripts
+pub mod Entries
+pub mod Histories

@@ -3,7 +3,8 @@
 #![tactic(auto)]
 
 pub mod forms;
+pub mod histories;
 pub mod large;
 pub mod lines;
-pub mod numbers;
 pub mod reading;
+pub mod scripts;

@@ -1,9 +1,9 @@
 //! Texts of scripts and their first stated faults, each as the line and the number of the fault.
 
-ghost use Rattle.std.specs.Prelude.{◌≡◌, ◌∷◌, [], ◌++◌, codes, negsuc, replicate, None, Some};
+ghost use Rattle.std.specs.Prelude.{◌≡◌, ◌∷◌, [], ◌++◌, codes, replicate, None, Some};
 ghost use Rattle.thr_syntax.specs.Canon.{canon};
 ghost use Rattle.thr_text.specs.Reading.{Reads};
-ghost use Rattle.thr_model.specs.Built.{saying_script};
+ghost use Rattle.thr_examples.specs.Pasted.{script_of};
 ghost use Rattle.thr_examples.specs.Texts.{fault_of, fault_in, in_main, lines_text, with_main};
 
 /// Bytes that may not stand in a line, and lines that are too long.
@@ -227,6 +227,6 @@ pub fn right_texts()
 pub fn a_text_is_read()
     ensures read { Reads
         (codes "dcethr 1" ++ 13 ∷ 10 ∷ codes "# note" ++ 10 ∷ 9 ∷ codes "routine  main a" ++ 10 ∷ codes " say -007" ++ 10 ∷ codes "end")
-        (saying_script (codes "a") (negsuc 6 ∷ [])) }
-    ensures canonical { canon (saying_script (codes "a") (negsuc 6 ∷ [])) ≡ lines_text ("dcethr 1" ∷ "routine main a" ∷ "say -7" ∷ "end" ∷ []) }
+        (script_of "dcethr 1 ; routine main a ; say -7 ; end") }
+    ensures canonical { canon (script_of "dcethr 1 ; routine main a ; say -7 ; end") ≡ lines_text ("dcethr 1" ∷ "routine main a" ∷ "say -7" ∷ "end" ∷ []) }
 {}

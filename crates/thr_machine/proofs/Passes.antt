@@ -19,9 +19,9 @@ use Rattle.thr_syntax.specs.Folds.{each_stmt}
 use Rattle.thr_syntax.specs.Lines.{joined, stmt_lines, body_lines, head_lines, item_lines}
 use Rattle.thr_syntax.specs.Spelling.{name_at}
 use Rattle.thr_text.specs.Reading.{Formed}
-use Rattle.thr_model.specs.Built.{is_built, first_unbuilt}
-use Rattle.thr_model.proofs.BuiltLines.{isnt_built, first_from_one}
-use Rattle.thr_model.proofs.BuiltScripts.{formed_scripts_are_short}
+use Rattle.thr_machine.specs.Built.{is_built, first_unbuilt}
+use Rattle.thr_machine.proofs.BuiltLines.{isnt_built, first_from_one}
+use Rattle.thr_machine.proofs.BuiltScripts.{formed_scripts_are_short}
 use Rattle.thr_machine.specs.Passing.{passed, says_number}
 
 abbrev line_at : ℕ → Line

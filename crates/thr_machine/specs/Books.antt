@@ -1,13 +1,15 @@
 -- What a book stands for, and what its calls do.
-use Rattle.std.specs.Prelude.{◌≡◌, ℕ, pos, ◌+◌, ◌-◌, ◌≤◌, ◌<◌, List, [], ◌∷◌, ◌++◌, drop, length, Option, None, Some, IfSome, vec_len, vec_capacity}
-use Rattle.thr_values.specs.declared.scheduling.Policy.TheVariants as policy
+use Rattle.std.specs.Prelude.{◌≡◌, ℕ, ◌+◌, ◌-◌, ◌≤◌, ◌<◌, List, [], ◌++◌, length, Option, None, Some, IfSome, vec_len, vec_capacity}
 use Rattle.thr_values.specs.declared.event.Event.{Event}
 use Rattle.thr_values.specs.declared.event.Stop.{Stop}
-use Rattle.thr_syntax.specs.declared.tree.Stmt.{Stmt}
 use Rattle.thr_syntax.specs.declared.tree.Script.{Script}
-use Rattle.thr_model.specs.Machine.{State, Standing, Ready, Running, Ended, Made, main_body, opening, made_by}
+use Rattle.thr_model.specs.States.{State, opening}
+use Rattle.thr_model.specs.Turns.{Made}
+use Rattle.thr_model.specs.Events.{made_by}
 use Rattle.thr_model.specs.Histories.{History, stop_at, StopsWith, turn_count}
-use Rattle.thr_model.specs.Built.{IsBuilt}
+use Rattle.thr_machine.specs.Built.{IsBuilt}
+use Rattle.thr_machine.specs.Bodies.{main_body, left_of}
+use Rattle.thr_machine.specs.Alone.{Standing, Ready, Running, Ended, alone_at}
 use Rattle.thr_machine.specs.Views.{BookView}
 use Rattle.thr_machine.specs.declared.book.Phase.{Phase}
 use Rattle.thr_machine.specs.declared.book.Phase.TheVariants as phase
@@ -15,32 +17,13 @@ use Rattle.thr_machine.specs.declared.book.Book.TheInside.{Inside}
 
 -- ---- the representation
 
-abbrev pub standing_of : Phase → Standing
-standing_of phase.Ready = Ready 0
-standing_of phase.OnProcessor = Running 0
-standing_of phase.Over = Ended (pos 0)
-
--- The open calls: `main` with what is left of its body, until it is over.
-abbrev pub calls_of : Phase → List Stmt → List (List Stmt)
-calls_of phase.Ready rest = rest ∷ []
-calls_of phase.OnProcessor rest = rest ∷ []
-calls_of phase.Over rest = []
+abbrev pub standing_of : Phase → ℕ → Standing
+standing_of phase.Ready slice = Ready
+standing_of phase.OnProcessor slice = Running 0 slice
+standing_of phase.Over slice = Ended
 
 abbrev pub state_of : Inside → State
-state_of a = record {
-  threads = (
-    1,
-    record {
-      standing = standing_of a.phase;
-      remainder = record { value = pos 0; calls = calls_of a.phase (drop a.place (main_body a.script.items)) };
-      policy = policy.Fg;
-      priority = 16;
-      slice = a.slice;
-    },
-  ) ∷ [];
-  arrivals = 1;
-  clock = pos 0;
-}
+state_of a = alone_at a.script (standing_of a.phase a.slice) (left_of (main_body a.script.items) a.place)
 
 abbrev pub view_of : Inside → BookView
 view_of a = record {
@@ -55,7 +38,7 @@ view_of a = record {
 
 -- The stop that holds in a book, want of memory aside.
 abbrev pub stop_of : BookView → Option Stop
-stop_of b = stop_at b.script b.state b.entries
+stop_of b = stop_at b.script b.state (length b.entries)
 
 -- The state is that of the history, by some events.
 pub record IsReached (b : BookView) : Type 0 where
@@ -89,7 +72,7 @@ pub record IsOpen (b : BookView) : Type 0 where
 -- This event was made and wrote its lines, of which there is one at least; but for the room nothing else has changed.
 pub record Makes (old new : BookView) (e : Event) : Type 0 where
   pub made : Made
-  pub is_made : made_by old.workers old.state e ≡ Some made
+  pub is_made : made_by old.script old.workers old.state e ≡ Some made
   pub some : 0 < length made.lines
   pub after : new ≡ record old { state = made.state; entries = old.entries ++ made.lines; turns = old.turns + turn_count e; room = new.room }
 

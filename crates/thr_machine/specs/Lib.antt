@@ -1,4 +1,6 @@
+pub mod Built
 pub mod Bodies
+pub mod Alone
 pub mod Views
 pub mod Books
 pub mod Passing

@@ -4,7 +4,7 @@ use Rattle.thr_values.specs.declared.number.Line.{Line}
 use Rattle.thr_syntax.specs.declared.form.Form.{Form}
 use Rattle.thr_syntax.specs.declared.tree.Stmt.{Stmt}
 use Rattle.thr_syntax.specs.declared.tree.Stmt.TheVariants as stmt
-use Rattle.thr_model.specs.Built.{is_number, is_built}
+use Rattle.thr_machine.specs.Built.{is_number, is_built}
 
 -- The number after lines from this number on, or the first of them that isn't run.
 abbrev pub passed : List (List ℕ) → ℕ → List Form → Result ℕ Line

@@ -3,7 +3,7 @@ use Rattle.std.specs.Prelude.{ℕ, List, Option}
 use Rattle.thr_values.specs.declared.event.Stop.{Stop}
 use Rattle.thr_values.specs.declared.history.Entry.{Entry}
 use Rattle.thr_syntax.specs.declared.tree.Script.{Script}
-use Rattle.thr_model.specs.Machine.{State}
+use Rattle.thr_model.specs.States.{State}
 
 pub record BookView : Type 0 where
   pub script : Script

@@ -1,13 +1,13 @@
 //! The book: the machine with the history of its events.
 
 ghost use Rattle.std.specs.Prelude.{◌≡◌, ◌≤◌, ◌<◌, ◌+◌, ◌↔◌, [], ◌∷◌, ◌++◌, IsTrue, IfOk, IsSome, IfSome, IfNone, OnOk, OnErr, None, Some, vec_len, vec_capacity, false};
-ghost use Rattle.std.specs.Option.{option_map};
 ghost use Rattle.thr_values.specs.declared.event.Event.TheVariants as event;
 ghost use Rattle.thr_values.specs.declared.number.Tid.{Tid};
-ghost use Rattle.thr_model.specs.Machine.{made_by, running, thread_number};
+ghost use Rattle.thr_parts.specs.Dispatch.{running};
+ghost use Rattle.thr_model.specs.Events.{made_by};
 ghost use Rattle.thr_model.specs.Histories.{stop_at, StopsWith, Legal};
 ghost use Rattle.thr_text.specs.Reading.{Formed};
-ghost use Rattle.thr_model.specs.Built.{first_unbuilt};
+ghost use Rattle.thr_machine.specs.Built.{first_unbuilt};
 
 use crate::place::{body_of, next_slice, number_of};
 use sqlite_items::Items;
@@ -71,7 +71,7 @@ fn add(entries: &mut Vec<Entry>, who: Who, what: What)
 }
 
 impl Book {
-    ghost use Rattle.thr_model.specs.Machine.{opening, running};
+    ghost use Rattle.thr_model.specs.States.{opening};
     ghost use Rattle.thr_machine.specs.Books.{IsOpened, IsOpen, Makes, RoomOnly, IsReached, stop_of};
 
     /// A machine of `workers` processors, opened on the script. So far there is one processor.
@@ -114,7 +114,7 @@ impl Book {
 
     /// The thread that processor `p` has.
     pub fn running(&self, p: u32) -> Option<Tid>
-        ensures { result ≡ option_map thread_number (running self.now.state p) }
+        ensures { result ≡ running self.now.state.rows p }
     {
         match self.phase {
             Phase::OnProcessor if p == 0 => Some(Tid(1)),
@@ -126,9 +126,9 @@ impl Book {
     pub fn dispatch(&mut self, p: u32) -> Option<Tid>
         requires { IsOpen self.old }
         ensures made { IfSome result (λ t. Makes self.old self.new (event.Dispatch p)) }
-        ensures thread { IfSome result (λ t. running self.new.state p ≡ Some t.0) }
-        ensures none { IfNone result ((made_by self.old.workers self.old.state (event.Dispatch p) ≡ None) × (self.new ≡ self.old)) }
-        ensures taken { p < self.old.workers → running self.old.state p ≡ None → IsSome result }
+        ensures thread { IfSome result (λ t. running self.new.state.rows p ≡ Some t) }
+        ensures none { IfNone result ((made_by self.old.script self.old.workers self.old.state (event.Dispatch p) ≡ None) × (self.new ≡ self.old)) }
+        ensures taken { p < self.old.workers → running self.old.state.rows p ≡ None → IsSome result }
     {
         match self.phase {
             Phase::Ready if p == 0 => {
@@ -144,7 +144,7 @@ impl Book {
     /// The thread that processor `p` has makes a turn.
     pub fn turn(&mut self, p: u32)
         requires open { IsOpen self.old }
-        requires runs { IsSome (running self.old.state p) }
+        requires runs { IsSome (running self.old.state.rows p) }
         ensures { Makes self.old self.new (event.Turn p) }
     {
         let _ = p;
@@ -166,9 +166,10 @@ impl Book {
     /// time.
     pub fn clock(&mut self) -> bool
         requires { IsOpen self.old }
-        ensures never { (result ≡ false) × (made_by self.old.workers self.old.state event.Clock ≡ None) }
+        ensures never { (result ≡ false) × (made_by self.old.script self.old.workers self.old.state event.Clock ≡ None) }
         ensures same { self.new ≡ self.old }
     {
+        let _ = &self.phase;
         false
     }
 

@@ -2,5 +2,6 @@
 #![tactic(auto)]
 
 pub mod book;
+pub mod laws;
 pub mod place;
 pub mod unbuilt;

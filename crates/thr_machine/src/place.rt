@@ -1,9 +1,9 @@
 //! Where the one thread stands in the body of `main`.
 
 ghost use Rattle.std.specs.Prelude.{◌≡◌};
-ghost use Rattle.thr_model.specs.Machine.{main_body, slice_after};
-ghost use Rattle.thr_model.specs.Built.{IsBuilt, say};
-ghost use Rattle.thr_machine.specs.Bodies.{IsSay};
+ghost use Rattle.thr_machine.specs.Built.{IsBuilt, say};
+ghost use Rattle.thr_machine.specs.Bodies.{IsSay, main_body};
+ghost use Rattle.thr_machine.specs.Alone.{slice_later};
 
 use thr_syntax::expr::Expr;
 use thr_syntax::tree::{Item, Script, Stmt};
@@ -35,11 +35,7 @@ pub fn number_of(stmt: &Stmt) -> i64
 
 /// The slice after a turn.
 pub fn next_slice(slice: u8) -> u8
-    ensures { result ≡ slice_after slice }
+    ensures { result ≡ slice_later slice }
 {
-    if slice == 1 {
-        8
-    } else {
-        slice.saturating_sub(1)
-    }
+    if slice <= 1 { 8 } else { slice - 1 }
 }

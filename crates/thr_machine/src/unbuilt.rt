@@ -6,7 +6,7 @@ ghost use Rattle.std.specs.Str.{bytes_eq};
 ghost use Rattle.thr_syntax.specs.Spelling.{name_at};
 ghost use Rattle.thr_syntax.specs.Lines.{joined, body_lines, head_lines, routine_lines, item_lines};
 ghost use Rattle.thr_text.specs.Reading.{Formed};
-ghost use Rattle.thr_model.specs.Built.{first_unbuilt};
+ghost use Rattle.thr_machine.specs.Built.{first_unbuilt};
 ghost use Rattle.thr_machine.specs.Passing.{passed, says_number};
 
 use thr_syntax::expr::Expr;

@@ -1,150 +1,144 @@
 -- The lines of a history fix its events.
-use Rattle.std.proofs.Common.{◌≡◌, ℕ, ℤ, ◌+◌, Bool, true, false, List, [], ◌∷◌, ◌++◌, length, refl, ap, sym, ◌∙◌, subst, arith, length-append}
-use Rattle.std.specs.Prelude.{Some, None, if◌then◌else◌, ◌==◌, ◌&&◌, nat_lt, is_none}
-use Rattle.std.specs.Option.{option_and_then}
-use Rattle.std.proofs.lemmas.Bool.Decides.{nat_tests}
+use Rattle.std.proofs.Common.{◌≡◌, ℕ, ◌+◌, List, [], ◌∷◌, ◌++◌, reverse, Some, refl, sym, ◌∙◌, ap, subst}
+use Rattle.std.specs.Option.{unwrap_or}
+use Rattle.std.proofs.lemmas.List.{append_assoc, append-nil, append_cancel_left, reverse-append, reverse-reverse}
+use Rattle.thr_values.specs.declared.number.Tid.{Tid}
 use Rattle.thr_values.specs.declared.event.Event.{Event}
 use Rattle.thr_values.specs.declared.event.Event.TheVariants as event
 use Rattle.thr_values.specs.declared.history.Who.{Who}
 use Rattle.thr_values.specs.declared.history.Who.TheVariants as who
-use Rattle.thr_values.specs.declared.history.What.{What}
 use Rattle.thr_values.specs.declared.history.Entry.{Entry}
-use Rattle.thr_values.specs.declared.scheduling.Policy.{Policy}
 use Rattle.thr_syntax.specs.declared.tree.Script.{Script}
-use Rattle.thr_model.specs.Machine.{State, Remainder, Thread, Standing, Ready, Running, Ended, Made, made_by, turn_of, takes, thread_line}
+use Rattle.thr_parts.specs.Tables.{IsCanonical}
+use Rattle.thr_parts.specs.Rows.{Rows}
+use Rattle.thr_parts.specs.Dispatch.{running}
+use Rattle.thr_parts.proofs.RunningLaws.{one_processor}
+use Rattle.thr_model.specs.States.{State, opening}
+use Rattle.thr_model.specs.Turns.{Made}
+use Rattle.thr_model.specs.Events.{made_by}
 use Rattle.thr_model.specs.Histories.{History, opened, then_event, turn_count}
-use Rattle.thr_model.proofs.Short.{alone_with, made-is, never-made, no-dispatch, turn-turns, event-left}
+use Rattle.thr_model.proofs.RowsKept.{history_canonical, made_canonical}
+use Rattle.thr_model.proofs.FirstLines.{IsOf, Names, made_names}
 
--- these lines are one that tells the event, where thread 1 alone has this standing
-abbrev Tells : Standing → Event → List Entry → Type 0
-Tells sd (event.Dispatch p) lines = (w : What) × (lines ≡ record { who = who.Proc p; what = w } ∷ [])
-Tells sd (event.Turn p) lines = (w : What) × (lines ≡ thread_line 1 w ∷ []) × (sd ≡ Running p)
-Tells sd event.Clock lines = ⊥
+-- ---- the first line names one event
 
-dispatch-tells : (b : Bool) (x : Thread) (sd : Standing) (p a : ℕ) (c : ℤ) (made : Made) → (if b then Some (takes (alone_with x a c) p 1 x) else None) ≡ Some made → Tells sd (event.Dispatch p) made.lines
-dispatch-tells false x sd p a c made e = never-made made e
-dispatch-tells true x sd p a c made e = subst (λ (m : Made). Tells sd (event.Dispatch p) m.lines) (made-is _ made e) (_, refl)
+-- Whose the first line is, of lines with more behind them.
+first_of : (w : Who) (lines more : List Entry) → IsOf w lines → IsOf w (lines ++ more)
+first_of w [] more h = absurd h
+first_of w (l ∷ ls) more h = h
 
-turn-tells : (b : Bool) (x : Thread) (p q a : ℕ) (c : ℤ) (made : Made) → (b ≡ true → p ≡ q) → x.standing ≡ Running q → option_and_then (turn_of (alone_with x a c)) (if b then Some 1 else None) ≡ Some made → Tells (Running q) (event.Turn p) made.lines
-turn-tells false x p q a c made same h e = never-made made e
-turn-tells true x p q a c made same h e =
-    let t = turn-turns (alone_with x a c) 1 x q x.remainder.value x.remainder.calls made h e in
-    (t.what, t.line, ap Running (sym (same refl)))
+same_first : (v w : Who) (lines : List Entry) → IsOf v lines → IsOf w lines → v ≡ w
+same_first v w [] h i = absurd h
+same_first v w (l ∷ ls) h i = sym h ∙ i
 
-event-tells : (n : ℕ) (sd : Standing) (r : Remainder) (po : Policy) (pr sl a : ℕ) (c : ℤ) (e : Event) (made : Made)
-    → made_by n (alone_with (record { standing = sd; remainder = r; policy = po; priority = pr; slice = sl }) a c) e ≡ Some made → Tells sd e made.lines
-event-tells n (Ready i) r po pr sl a c (event.Dispatch p) made e =
-    dispatch-tells (nat_lt p n && true) (record { standing = Ready i; remainder = r; policy = po; priority = pr; slice = sl }) (Ready i) p a c made e
-event-tells n (Running q) r po pr sl a c (event.Dispatch p) made e = no-dispatch (nat_lt p n && is_none (if p == q then Some 1 else None)) made e
-event-tells n (Ended v) r po pr sl a c (event.Dispatch p) made e = no-dispatch (nat_lt p n && true) made e
-event-tells n (Ready i) r po pr sl a c (event.Turn p) made e = never-made made e
-event-tells n (Running q) r po pr sl a c (event.Turn p) made e =
-    turn-tells (p == q) (record { standing = Running q; remainder = r; policy = po; priority = pr; slice = sl }) p q a c made (λ b. grind (arith, nat_tests)) refl e
-event-tells n (Ended v) r po pr sl a c (event.Turn p) made e = never-made made e
-event-tells n sd r po pr sl a c event.Clock made e = never-made made e
+no_line : (w : Who) → IsOf w [] → ⊥
+no_line w h = h
 
--- the processor of a first line, counted from 1; no other line has one
-abbrev processor_in : Who → ℕ
-processor_in (who.Proc p) = p + 1
-processor_in (who.Thread t) = 0
-processor_in who.Clock = 0
+processor_in : Who → ℕ → ℕ
+processor_in (who.Proc p) d = p
+processor_in (who.Thread t) d = d
+processor_in who.Clock d = d
 
-abbrev processor_of : List Entry → ℕ
-processor_of [] = 0
-processor_of (e ∷ es) = processor_in e.who
+same_processor : (p q : ℕ) → who.Proc p ≡ who.Proc q → p ≡ q
+unfolding processor_in
+same_processor p q e = ap (λ w. processor_in w p) e
 
--- equal lines tell one event
-told-event : (sd : Standing) (e f : Event) (lines more : List Entry) → Tells sd e lines → Tells sd f more → lines ≡ more → e ≡ f
-told-event sd (event.Dispatch p) (event.Dispatch q) lines more a b same =
-    let equal : p + 1 ≡ q + 1 = ap processor_of (sym a.1 ∙ same ∙ b.1) in
-    ap event.Dispatch (omega (arith, equal))
-told-event sd (event.Dispatch p) (event.Turn q) lines more a b same =
-    let equal : p + 1 ≡ 0 = ap processor_of (sym a.1 ∙ same ∙ b.1) in
-    absurd (omega (arith, equal))
-told-event sd (event.Turn p) (event.Dispatch q) lines more a b same =
-    let equal : 0 ≡ q + 1 = ap processor_of (sym a.1 ∙ same ∙ b.1) in
-    absurd (omega (arith, equal))
-told-event sd (event.Turn p) (event.Turn q) lines more a b same = cc
-told-event sd event.Clock f lines more a b same = absurd a
-told-event sd (event.Dispatch p) event.Clock lines more a b same = absurd b
-told-event sd (event.Turn p) event.Clock lines more a b same = absurd b
+thread_in : Who → Tid → Tid
+thread_in (who.Proc p) d = d
+thread_in (who.Thread t) d = t
+thread_in who.Clock d = d
 
--- ---- one event
+same_thread : (t u : Tid) → who.Thread t ≡ who.Thread u → t ≡ u
+unfolding thread_in
+same_thread t u e = ap (λ w. thread_in w t) e
 
--- the machine has one thread
-record IsAlone (st : State) : Type 0 where
-  thread : Thread
-  alone : st.threads ≡ (1, thread) ∷ []
+more_names : (rs : Rows) (e : Event) (lines more : List Entry) → Names rs e lines → Names rs e (lines ++ more)
+more_names rs (event.Dispatch p) lines more h = first_of (who.Proc p) lines more h
+more_names rs (event.Turn p) lines more h = (h.0, h.1, first_of (who.Thread h.0) lines more h.2)
+more_names rs event.Clock lines more h = first_of who.Clock lines more h
 
-abbrev alone_of : (st : State) → IsAlone st → State
-alone_of st i = alone_with i.thread st.arrivals st.clock
+same_turn : (rs : Rows) (p q : ℕ) (t u : Tid) → IsCanonical rs.seats → running rs p ≡ Some t → running rs q ≡ Some u → t ≡ u → p ≡ q
+same_turn rs p q t u c e f same = one_processor rs p q u c (e ∙ ap Some same) f
 
-made-alone : (n : ℕ) (st : State) (e : Event) (made : Made) (i : IsAlone st) → made_by n st e ≡ Some made → made_by n (alone_of st i) e ≡ Some made
-made-alone n st e made i m = subst (λ (ths : List (ℕ × Thread)). made_by n (record { threads = ths; arrivals = st.arrivals; clock = st.clock }) e ≡ Some made) i.alone m
+-- The same first line names the same event.
+named : (rs : Rows) (e f : Event) (lines : List Entry) → IsCanonical rs.seats → Names rs e lines → Names rs f lines → e ≡ f
+named rs (event.Dispatch p) (event.Dispatch q) lines c a b = ap event.Dispatch (same_processor p q (same_first (who.Proc p) (who.Proc q) lines a b))
+named rs (event.Dispatch p) (event.Turn q) lines c a b = let e : who.Proc p ≡ who.Thread b.0 = same_first (who.Proc p) (who.Thread b.0) lines a b.2 in absurd (cc e)
+named rs (event.Dispatch p) event.Clock lines c a b = let e : who.Proc p ≡ who.Clock = same_first (who.Proc p) who.Clock lines a b in absurd (cc e)
+named rs (event.Turn p) (event.Dispatch q) lines c a b = let e : who.Thread a.0 ≡ who.Proc q = same_first (who.Thread a.0) (who.Proc q) lines a.2 b in absurd (cc e)
+named rs (event.Turn p) (event.Turn q) lines c a b = ap event.Turn (same_turn rs p q a.0 b.0 c a.1 b.1 (same_thread a.0 b.0 (same_first (who.Thread a.0) (who.Thread b.0) lines a.2 b.2)))
+named rs (event.Turn p) event.Clock lines c a b = let e : who.Thread a.0 ≡ who.Clock = same_first (who.Thread a.0) who.Clock lines a.2 b in absurd (cc e)
+named rs event.Clock (event.Dispatch q) lines c a b = let e : who.Clock ≡ who.Proc q = same_first who.Clock (who.Proc q) lines a b in absurd (cc e)
+named rs event.Clock (event.Turn q) lines c a b = let e : who.Clock ≡ who.Thread b.0 = same_first who.Clock (who.Thread b.0) lines a b.2 in absurd (cc e)
+named rs event.Clock event.Clock lines c a b = refl
 
-still-alone : (n : ℕ) (st : State) (e : Event) (made : Made) → IsAlone st → made_by n st e ≡ Some made → IsAlone made.state
-still-alone n st e made i m =
-    let x = i.thread in
-    let l = event-left n x.standing x.remainder x.policy x.priority x.slice st.arrivals st.clock e made (made-alone n st e made i m) in
-    record { thread = l.thread; alone = l.alone }
+none_named : (rs : Rows) (e : Event) → Names rs e [] → ⊥
+none_named rs (event.Dispatch p) h = h
+none_named rs (event.Turn p) h = h.2
+none_named rs event.Clock h = h
 
-one-line : (n : ℕ) (st : State) (e : Event) (made : Made) → IsAlone st → made_by n st e ≡ Some made → length made.lines ≡ 1
-one-line n st e made i m =
-    let x = i.thread in
-    (event-left n x.standing x.remainder x.policy x.priority x.slice st.arrivals st.clock e made (made-alone n st e made i m)).one
+-- ---- the events from the first one on
 
-alone-tells : (n : ℕ) (st : State) (e : Event) (made : Made) (i : IsAlone st) → made_by n st e ≡ Some made → Tells i.thread.standing e made.lines
-alone-tells n st e made i m =
-    let x = i.thread in
-    event-tells n x.standing x.remainder x.policy x.priority x.slice st.arrivals st.clock e made (made-alone n st e made i m)
+-- From this state these events, the oldest first, make these lines and come to that state.
+data Goes (s : Script) (n : ℕ) : State → List Event → List Entry → State → Type 0 where
+  rests : {st : State} → Goes s n st [] [] st
+  goes : {st to : State} {events : List Event} {rest : List Entry} (e : Event) (made : Made) → made_by s n st e ≡ Some made → Goes s n made.state events rest to
+      → Goes s n st (e ∷ events) (made.lines ++ rest) to
 
-same-made : (n : ℕ) (st : State) (e f : Event) (a b : Made) → e ≡ f → made_by n st e ≡ Some a → made_by n st f ≡ Some b → a ≡ b
-same-made n st e f a b same m k = cc
+-- One event more.
+goes_on : (s : Script) (n : ℕ) {st to : State} {events : List Event} {lines : List Entry} → Goes s n st events lines to → (e : Event) (made : Made) → made_by s n to e ≡ Some made
+    → Goes s n st (events ++ e ∷ []) (lines ++ made.lines) made.state
+goes_on s n {st} rests e made m = subst (λ (ls : List Entry). Goes s n st (e ∷ []) ls made.state) (append-nil made.lines) (goes e made m rests)
+goes_on s n {st} (goes {events = events} {rest = rest} f first k g) e made m =
+    subst (λ (ls : List Entry). Goes s n st (f ∷ (events ++ e ∷ [])) ls made.state) (sym (append_assoc first.lines rest made.lines)) (goes f first k (goes_on s n g e made m))
 
--- ---- whole histories
+-- A history goes through its events, the oldest first.
+history_goes : {s : Script} {n : ℕ} {st : State} {events : List Event} {entries : List Entry} {turns : ℕ} → History s n st events entries turns
+    → Goes s n (opening s) (reverse events) entries st
+history_goes opened = rests
+history_goes {s} {n} (then_event {events = events} {entries = entries} h open_ e made m) =
+    subst (λ (es : List Event). Goes s n (opening s) es (entries ++ made.lines) made.state) (sym (reverse-append (e ∷ []) events)) (goes_on s n (history_goes h) e made m)
 
--- the last line of a list
-record SameSnoc (es fs ls ks : List Entry) : Type 0 where
-  front : es ≡ fs
-  last : ls ≡ ks
+-- ---- two histories
 
-same-snoc : (es fs ls ks : List Entry) → length ls ≡ 1 → length ks ≡ 1 → es ++ ls ≡ fs ++ ks → SameSnoc es fs ls ks
-same-snoc [] [] ls ks l k e = record { front = refl; last = e }
-same-snoc [] (f ∷ fs) ls ks l k e = absurd (omega (arith, l, k, ap length e, length-append fs ks))
-same-snoc (x ∷ es) [] ls ks l k e = absurd (omega (arith, l, k, ap length e, length-append es ls))
-same-snoc (x ∷ es) (f ∷ fs) ls ks l k e =
-    let more = same-snoc es fs ls ks l k (cc) in
-    record { front = cc; last = more.last }
+record IsSame (events events' : List Event) (to to' : State) : Type 0 where
+  same_events : events ≡ events'
+  same_state : to ≡ to'
 
-history-alone : {s : Script} {n : ℕ} {st : State} {events : List Event} {entries : List Entry} {turns : ℕ} → History s n st events entries turns → IsAlone st
-history-alone opened = record { thread = _; alone = refl }
-history-alone {s} {n} (then_event {st} h open_ e made m) = still-alone n st e made (history-alone h) m
+never_empty : (s : Script) (n : ℕ) (st : State) (e : Event) (made : Made) (rest : List Entry) → made_by s n st e ≡ Some made → [] ≡ made.lines ++ rest → ⊥
+never_empty s n st e made rest m same = none_named st.rows e (subst (Names st.rows e) (sym same) (more_names st.rows e made.lines rest (made_names s n st e made m)))
 
--- one history has all that another has
-pub record IsSame (st st' : State) (events events' : List Event) (turns turns' : ℕ) : Type 0 where
-  pub same_state : st ≡ st'
-  pub same_events : events ≡ events'
-  pub same_turns : turns ≡ turns'
+same_made : (s : Script) (n : ℕ) (st : State) (e f : Event) (a b : Made) → e ≡ f → made_by s n st e ≡ Some a → made_by s n st f ≡ Some b → a ≡ b
+same_made s n st e f a b same m k = ap (λ o. unwrap_or o a) (sym m ∙ ap (made_by s n st) same ∙ k)
 
-no-lines : (es ls : List Entry) → length ls ≡ 1 → [] ≡ es ++ ls → ⊥
-no-lines es ls l e = omega (arith, l, ap length e, length-append es ls)
+same_goes : (s : Script) (n : ℕ) {st to to' : State} {events events' : List Event} {lines lines' : List Entry} → IsCanonical st.rows.seats → Goes s n st events lines to
+    → Goes s n st events' lines' to' → lines ≡ lines' → IsSame events events' to to'
+same_goes s n {st} c rests rests same = record { same_events = refl; same_state = refl }
+same_goes s n {st} c rests (goes {rest = rest} f b k g) same = absurd (never_empty s n st f b rest k same)
+same_goes s n {st} c (goes {rest = rest} e a m g) rests same = absurd (never_empty s n st e a rest m (sym same))
+same_goes s n {st} {to} {to'} c (goes {events = es} {rest = rest} e a m g) (goes {events = fs} {rest = rest'} f b k h) same =
+    let event_ : e ≡ f =
+    named st.rows e f (b.lines ++ rest') c (subst (Names st.rows e) same (more_names st.rows e a.lines rest (made_names s n st e a m))) (more_names st.rows f b.lines rest' (made_names s n st f b k)) in
+    let made_ : a ≡ b = same_made s n st e f a b event_ m k in
+    let again : Goes s n b.state es rest to = subst (λ (x : Made). Goes s n x.state es rest to) made_ g in
+    let tail : rest ≡ rest' = append_cancel_left b.lines rest rest' (ap (λ (x : Made). x.lines ++ rest) (sym made_) ∙ same) in
+    let behind : IsSame es fs to to' = same_goes s n (made_canonical s n st f b c k) again h tail in
+    record { same_events = cc (event_, behind.same_events); same_state = behind.same_state }
 
-same-next : (n : ℕ) {st st' : State} {events events' : List Event} {entries entries' : List Entry} {turns turns' : ℕ} (e e' : Event) (made made' : Made)
-    → IsAlone st → IsAlone st' → made_by n st e ≡ Some made → made_by n st' e' ≡ Some made' → (entries ≡ entries' → IsSame st st' events events' turns turns')
-    → entries ++ made.lines ≡ entries' ++ made'.lines → IsSame made.state made'.state (e ∷ events) (e' ∷ events') (turns + turn_count e) (turns' + turn_count e')
-same-next n {st} {st'} {events} {events'} {entries} {entries'} e e' made made' i i' m m' above same =
-    let lines = same-snoc entries entries' made.lines made'.lines (one-line n st e made i m) (one-line n st' e' made' i' m') same in
-    let before = above lines.front in
-    let again : made_by n st e' ≡ Some made' = subst (λ (x : State). made_by n x e' ≡ Some made') (sym before.same_state) m' in
-    let event_ = told-event i.thread.standing e e' made.lines made'.lines (alone-tells n st e made i m) (alone-tells n st e' made' i again) lines.last in
-    let events_ = before.same_events in
-    let turns_ = before.same_turns in
-    record { same_state = ap (λ (x : Made). x.state) (same-made n st e e' made made' event_ m again); same_events = cc; same_turns = cc }
+turns_in : List Event → ℕ
+turns_in [] = 0
+turns_in (e ∷ events) = turns_in events + turn_count e
 
-pub same-history : {s : Script} {n : ℕ} {st st' : State} {events events' : List Event} {entries entries' : List Entry} {turns turns' : ℕ} → History s n st events entries turns
-    → History s n st' events' entries' turns' → entries ≡ entries' → IsSame st st' events events' turns turns'
-same-history opened opened same = record { same_state = refl; same_events = refl; same_turns = refl }
-same-history {s} {n} opened (then_event {st} {events} {entries} h open_ e made m) same = absurd (no-lines entries made.lines (one-line n st e made (history-alone h) m) same)
-same-history {s} {n} (then_event {st} {events} {entries} h open_ e made m) opened same = absurd (no-lines entries made.lines (one-line n st e made (history-alone h) m) (sym same))
-same-history {s} {n} (then_event h open_ e made m) (then_event h' open' e' made' m') same =
-    same-next n e e' made made' (history-alone h) (history-alone h') m m' (same-history h h') same
+history_turns : {s : Script} {n : ℕ} {st : State} {events : List Event} {entries : List Entry} {turns : ℕ} → History s n st events entries turns → turns ≡ turns_in events
+unfolding turns_in
+history_turns opened = refl
+history_turns (then_event h open_ e made m) = ap (λ t. t + turn_count e) (history_turns h)
+
+-- Histories with the same lines have the same events, come to the same state, and have as many turns.
+pub same-history : (s : Script) (n : ℕ) (st st' : State) (events events' : List Event) (entries : List Entry) (turns turns' : ℕ) → History s n st events entries turns
+    → History s n st' events' entries turns' → (events ≡ events') × (st ≡ st') × (turns ≡ turns')
+same-history s n st st' events events' entries turns turns' h h' =
+    let start : History s n (opening s) [] [] 0 = opened in
+    let both : IsSame (reverse events) (reverse events') st st' = same_goes s n (history_canonical start) (history_goes h) (history_goes h') refl in
+    let events_ : events ≡ events' = sym (reverse-reverse events) ∙ ap reverse both.same_events ∙ reverse-reverse events' in
+    (events_, both.same_state, history_turns h ∙ ap turns_in events_ ∙ sym (history_turns h'))

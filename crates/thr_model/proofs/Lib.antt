@@ -1,5 +1,9 @@
-pub mod Fixed
 pub mod Plays
-pub mod Short
-pub mod BuiltLines
-pub mod BuiltScripts
+pub mod RowsKept
+pub mod PartTables
+pub mod StateTables
+pub mod ScopeOrder
+pub mod Owners
+pub mod FirstLines
+pub mod OneEvent
+pub mod Fixed

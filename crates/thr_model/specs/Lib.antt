@@ -1,4 +1,9 @@
-pub mod Machine
+pub mod States
+pub mod Calls
+pub mod Runs
+pub mod Turns
+pub mod Events
 pub mod Histories
 pub mod Play
-pub mod Built
+pub mod Canonical
+pub mod Computing

@@ -7,3 +7,7 @@ pub mod WakeLaws
 pub mod DueLaws
 pub mod StandingLaws
 pub mod PartLaws
+pub mod RunningLaws
+pub mod EachLaws
+pub mod KeptLaws
+pub mod OwnerLaws

@@ -9,7 +9,7 @@ ghost use Rattle.thr_parts.specs.declared.row.Seat.{Seat};
 ghost use Rattle.thr_parts.specs.Tables.{Table, none, get, at, put, cut, present, IsCanonical};
 ghost use Rattle.thr_parts.specs.Rows.{Rows, seat_of, row_of, is_same_row, before, best, best_first, best_of, number_in, is_among};
 ghost use Rattle.thr_parts.specs.Moves.{put_in_row, take_out, leave, block_in, set_rank, make_ready, make_all_ready, free_row};
-ghost use Rattle.thr_parts.specs.Dispatch.{dispatch, keeps, is_outranked, is_matched};
+ghost use Rattle.thr_parts.specs.Dispatch.{running, some_can_run, dispatch, keeps, is_outranked, is_matched};
 ghost use Rattle.thr_parts.specs.Mutexes.{Locks};
 ghost use Rattle.thr_parts.specs.Locking.{lock, unlock, regain};
 ghost use Rattle.thr_parts.specs.Conditions.{Conds, wait, timedwait, delay};
@@ -131,6 +131,17 @@ pub fn the_best_ready_thread_tells_who_gives_way()
         → seat_of rs w ≡ Some s → is_outranked rs rank ≡ false → is_matched rs rank ≡ (s.rank == rank) }
     ensures by_nobody { (rs : Rows) (rank : ℕ) → best rs row.Ready ≡ None → is_outranked rs rank ≡ false }
     ensures like_nobody { (rs : Rows) (rank : ℕ) → best rs row.Ready ≡ None → is_matched rs rank ≡ false }
+{}
+
+/// A thread runs on one processor at most. Where a processor has a thread, or takes one, which it does where it has none,
+/// some thread can run.
+#[tactic(auto, using(crate::proofs::RunningLaws::one_processor, crate::proofs::RunningLaws::running_can, crate::proofs::RunningLaws::taken_could, crate::proofs::RunningLaws::taken_free))]
+pub fn threads_run_on_one_processor()
+    ensures one { (rs : Rows) (p q : ℕ) (t : Tid) → IsCanonical rs.seats → running rs p ≡ Some t
+        → running rs q ≡ Some t → p ≡ q }
+    ensures can_run { (rs : Rows) (p : ℕ) (t : Tid) → running rs p ≡ Some t → some_can_run rs ≡ true }
+    ensures could_run { (rs : Rows) (p : ℕ) (t : Tid) → (dispatch rs p).taken ≡ Some t → some_can_run rs ≡ true }
+    ensures had_none { (rs : Rows) (p : ℕ) (t : Tid) → (dispatch rs p).taken ≡ Some t → running rs p ≡ None }
 {}
 
 /// A row that becomes ready: its best thread does, and then those that are left.

@@ -1,19 +1,23 @@
 -- How runs end.
-use Rattle.std.proofs.Common.{◌≡◌, ◌<◌, ℕ, List, [], length, refl, sym, ap, subst, arith, append-nil, inl, inr}
-use Rattle.std.specs.Prelude.{Option, Some, None, IfSome, ◌⊎◌}
+use Rattle.std.proofs.Common.{◌≡◌, ◌<◌, ℕ, Bool, true, false, List, [], ◌∷◌, ◌++◌, length, length-append, refl, sym, ap, ◌∙◌, subst, arith, append-nil, inl, inr}
+use Rattle.std.proofs.lemmas.Bool.Decides.{nat_tests}
+use Rattle.std.specs.Prelude.{Option, Some, None, IfSome, nat_le, ◌⊎◌}
 use Rattle.std.specs.Io.KnownBytes.{Appends}
+use Rattle.thr_values.specs.declared.number.Tid.{Tid}
+use Rattle.thr_values.specs.declared.event.Event.{Event}
 use Rattle.thr_values.specs.declared.event.Stop.{Stop}
 use Rattle.thr_values.specs.declared.event.Stop.TheVariants as stops
 use Rattle.thr_syntax.specs.declared.tree.Script.{Script}
 use Rattle.thr_wire.specs.Bytes.{TookMoreThan, TookAll}
 use Rattle.thr_text.specs.Reading.{Formed}
-use Rattle.thr_model.specs.Built.{first_unbuilt, IsBuilt, AreBuiltLines}
-use Rattle.thr_model.specs.Histories.{History, stop_at}
-use Rattle.thr_model.proofs.BuiltScripts.{formed_scripts_say_numbers, formed_scripts_are_few}
-use Rattle.thr_model.proofs.Short.{short-finishes, short-lines}
+use Rattle.thr_machine.specs.Built.{first_unbuilt, IsBuilt, AreBuiltLines}
+use Rattle.thr_model.specs.States.{State}
+use Rattle.thr_model.specs.Histories.{History, limit_of, stop_with, stop_at}
+use Rattle.thr_machine.proofs.BuiltScripts.{formed_scripts_say_numbers, formed_scripts_are_few}
+use Rattle.thr_machine.proofs.Short.{short-finishes, short-lines}
 use Rattle.thr_machine.specs.Views.{BookView}
-use Rattle.thr_machine.specs.Books.{IsReached, stop_of}
-use Rattle.thr_top.specs.Driving.{IsFew, IsAtEnd}
+use Rattle.thr_machine.specs.Books.{IsReached, Makes, RoomOnly, stop_of}
+use Rattle.thr_top.specs.Driving.{IsFew, IsGoing, IsAtEnd, room_of}
 use Rattle.thr_top.specs.Answers.{Refuses, RunAnswers, CheckAnswers, Ends, answered, unread, no_memory, not_run, not_checked, whole, max_script}
 
 gains-nothing : (o : Option (List ℕ)) → Appends o o []
@@ -63,7 +67,7 @@ pub few-finishes : (b : BookView) (why : Stop) → IsFew b.script → IsReached 
 few-finishes b why few r e =
     short-finishes few.parameter few.numbers b.workers b.state r.events b.entries b.turns why few.few
     (subst (λ (s : Script). History s b.workers b.state r.events b.entries b.turns) few.same r.history)
-    (subst (λ (s : Script). stop_at s b.state b.entries ≡ Some why) few.same (sym e))
+    (subst (λ (s : Script). stop_at s b.state (length b.entries) ≡ Some why) few.same (sym e))
 
 pub few-lines : (b : BookView) → IsFew b.script → IsReached b → AreBuiltLines b.entries
 few-lines b few r =
@@ -73,6 +77,32 @@ few-lines b few r =
 pub at-end : (b after : BookView) (why : Stop) → IsFew b.script → IsReached b → Some why ≡ stop_of b → after ≡ record b { stopped = Some why } → IsAtEnd after
 at-end b after why few r e is =
     subst IsAtEnd (sym is) (record { reached = record { events = r.events; history = r.history }; stopped = ap (λ (s : Stop). Some s) (few-finishes b why few r e) })
+
+-- ---- one event more
+
+none-full : (ts : List Tid) (going full : Bool) → stop_with ts going full ≡ None → full ≡ false
+none-full [] going full e = absurd (cc)
+none-full (t ∷ ts) false full e = absurd (cc)
+none-full (t ∷ ts) true false e = refl
+none-full (t ∷ ts) true true e = absurd (cc)
+
+below-limit : (s : Script) (st : State) (count : ℕ) → stop_at s st count ≡ None → count < limit_of s
+unfolding stop_at
+below-limit s st count e = let open_ : nat_le (limit_of s) count ≡ false = none-full _ _ _ e in grind (arith, nat_tests)
+
+-- a book that no stop holds in still goes on after an event, nearer to the limit
+pub goes-further : (old mid new : BookView) (e : Event) → IsGoing old → None ≡ stop_of old → RoomOnly old mid → Makes mid new e → IsGoing new × (room_of new < room_of old)
+goes-further old mid new e going open_ same m =
+    let script : new.script ≡ old.script = ap (λ (b : BookView). b.script) m.after ∙ ap (λ (b : BookView). b.script) same in
+    let lines : new.entries ≡ old.entries ++ m.made.lines = ap (λ (b : BookView). b.entries) m.after ∙ ap (λ (b : BookView). b.entries ++ m.made.lines) same in
+    let less : length old.entries < limit_of old.script = below-limit old.script old.state (length old.entries) (sym open_) in (
+      record {
+        few = subst IsFew (sym script) going.few;
+        workers = ap (λ (b : BookView). b.workers) m.after ∙ ap (λ (b : BookView). b.workers) same ∙ going.workers;
+        going = ap (λ (b : BookView). b.stopped) m.after ∙ ap (λ (b : BookView). b.stopped) same ∙ going.going;
+      },
+      omega (arith, less, ap limit_of script, ap length lines, length-append old.entries m.made.lines, m.some),
+    )
 
 pub few-built : (s : Script) → IsFew s → IsBuilt s
 few-built s few = record { parameter = few.parameter; numbers = few.numbers; same = few.same }

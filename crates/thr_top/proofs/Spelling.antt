@@ -1,26 +1,23 @@
 -- What is printed is the journal's text.
-use Rattle.std.proofs.Common.{◌≡◌, ◌<◌, ◌+◌, length, arith, zero, suc, ℕ, ℤ, List, [], ◌∷◌, ◌++◌, map, take, refl, sym, ◌∙◌, ap, subst, append_assoc, append-nil}
+use Rattle.std.proofs.Common.{◌≡◌, ◌<◌, ◌+◌, length, arith, zero, suc, ℕ, ℤ, List, [], ◌∷◌, ◌++◌, map, refl, sym, ◌∙◌, ap, subst, append_assoc, append-nil}
 use Rattle.std.specs.Prelude.{codes, slice_index_or}
-use Rattle.std.specs.List.{flat_map}
 use Rattle.std.specs.Fmt.{decimal, signed_decimal}
-use Rattle.std.proofs.lemmas.List.{length-map, take_more}
-use Rattle.std.proofs.lemmas.Grind.{flat_map-append}
+use Rattle.std.proofs.lemmas.List.{length-map}
 use Rattle.thr_values.specs.declared.history.What.{What}
 use Rattle.thr_values.specs.declared.history.What.TheVariants as what
 use Rattle.thr_values.specs.declared.history.Entry.{Entry}
 use Rattle.thr_values.specs.declared.event.Stop.{Stop}
 use Rattle.thr_values.specs.declared.event.Stop.TheVariants as stops
 use Rattle.thr_syntax.specs.declared.form.Form.TheVariants as form
-use Rattle.thr_syntax.specs.declared.tree.Stmt.{Stmt}
 use Rattle.thr_syntax.specs.declared.tree.Script.{Script}
 use Rattle.thr_syntax.specs.Computing.{tree_words}
 use Rattle.thr_syntax.specs.Folds.{each_expr, each_stmt}
-use Rattle.thr_syntax.specs.Lines.{joined, body_lines}
+use Rattle.thr_syntax.specs.Lines.{body_lines}
 use Rattle.thr_syntax.specs.Spelling.{Scope, form_words}
 use Rattle.thr_syntax.specs.Canon.{line, canon, script_words}
 use Rattle.thr_text.specs.Journals.{numbered, what_words, who_word, stop_words, text}
-use Rattle.thr_model.specs.Machine.{main_body}
-use Rattle.thr_model.specs.Built.{IsBuilt, IsBuiltLine, AreBuiltLines, saying_script, say}
+use Rattle.thr_machine.specs.Bodies.{main_body}
+use Rattle.thr_machine.specs.Built.{IsBuilt, IsBuiltLine, AreBuiltLines, saying_script, say}
 use Rattle.thr_top.specs.Answers.{one_line}
 use Rattle.thr_top.specs.Printing.{what_text, plain_lines, stop_text}
 

@@ -10,7 +10,7 @@ use Rattle.thr_syntax.specs.Canon.{canon}
 use Rattle.thr_text.specs.Faults.{first_of}
 use Rattle.thr_text.specs.Journals.{text}
 use Rattle.thr_text.specs.Reading.{Reads, faults}
-use Rattle.thr_model.specs.Built.{first_unbuilt}
+use Rattle.thr_machine.specs.Built.{first_unbuilt}
 use Rattle.thr_model.specs.Histories.{Legal}
 
 -- ---- the words of the commands that are built

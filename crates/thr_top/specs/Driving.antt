@@ -2,7 +2,7 @@
 use Rattle.std.specs.Prelude.{◌≡◌, ℕ, ℤ, ◌+◌, ◌-◌, ◌≤◌, List, length, None, Some}
 use Rattle.thr_values.specs.declared.event.Stop.TheVariants as stops
 use Rattle.thr_syntax.specs.declared.tree.Script.{Script}
-use Rattle.thr_model.specs.Built.{saying_script}
+use Rattle.thr_machine.specs.Built.{saying_script}
 use Rattle.thr_model.specs.Histories.{limit_of}
 use Rattle.thr_machine.specs.Views.{BookView}
 use Rattle.thr_machine.specs.Books.{IsReached}
@@ -27,4 +27,4 @@ pub record IsAtEnd (b : BookView) : Type 0 where
 
 -- How many lines there are up to the limit.
 abbrev pub room_of : BookView → ℕ
-room_of b = limit_of b.script.items - length b.entries
+room_of b = limit_of b.script - length b.entries

@@ -1,16 +1,11 @@
 -- The texts that the printer makes, piece by piece. That they are the journal's text is proved.
-use Rattle.std.specs.Prelude.{ℕ, ◌+◌, List, [], ◌∷◌, ◌++◌, codes, slice_get, unwrap_or}
+use Rattle.std.specs.Prelude.{ℕ, ◌+◌, List, [], ◌∷◌, ◌++◌, codes}
 use Rattle.std.specs.Fmt.{decimal, signed_decimal}
 use Rattle.thr_values.specs.declared.event.Stop.{Stop}
 use Rattle.thr_values.specs.declared.event.Stop.TheVariants as stops
 use Rattle.thr_values.specs.declared.history.What.{What}
 use Rattle.thr_values.specs.declared.history.What.TheVariants as what
 use Rattle.thr_values.specs.declared.history.Entry.{Entry}
-use Rattle.thr_syntax.specs.declared.expr.Expr.TheVariants as expr
-use Rattle.thr_syntax.specs.declared.tree.Stmt.{Stmt}
-use Rattle.thr_syntax.specs.declared.tree.Stmt.TheVariants as stmt
-use Rattle.thr_syntax.specs.declared.tree.Item.{Item}
-use Rattle.thr_syntax.specs.declared.tree.Item.TheVariants as item
 use Rattle.thr_text.specs.Journals.{who_word}
 use Rattle.thr_top.specs.Answers.{one_line}
 

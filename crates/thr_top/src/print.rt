@@ -4,7 +4,7 @@ ghost use Rattle.std.specs.Prelude.{◌≡◌, ◌+◌, ◌++◌, ◌∷◌, [],
 ghost use Rattle.std.specs.Fmt.{decimal};
 ghost use Rattle.thr_syntax.specs.Canon.{canon, script_words};
 ghost use Rattle.thr_text.specs.Journals.{text, who_word};
-ghost use Rattle.thr_model.specs.Built.{IsBuilt, IsBuiltLine, AreBuiltLines};
+ghost use Rattle.thr_machine.specs.Built.{IsBuilt, IsBuiltLine, AreBuiltLines};
 ghost use Rattle.thr_top.specs.Answers.{one_line};
 ghost use Rattle.thr_top.specs.Printing.{what_text, plain_line, plain_lines, stop_text};
 

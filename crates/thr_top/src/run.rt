@@ -3,7 +3,7 @@
 ghost use Rattle.std.specs.Prelude.{◌≡◌, ◌<◌, IfOk, OnOk, IsSome, None, Some, true, false, length};
 ghost use Rattle.thr_values.specs.declared.event.Stop.TheVariants as stops;
 ghost use Rattle.thr_text.specs.Reading.{Formed};
-ghost use Rattle.thr_model.specs.Built.{first_unbuilt, AreBuiltLines};
+ghost use Rattle.thr_machine.specs.Built.{first_unbuilt, AreBuiltLines};
 ghost use Rattle.thr_model.specs.Histories.{Legal};
 ghost use Rattle.thr_top.specs.Driving.{IsGoing, IsAtEnd, room_of};
 

@@ -4,7 +4,7 @@ ghost use Rattle.std.specs.Prelude.{◌≡◌, ◌≢◌, ◌≤◌, ◌+◌, �
 ghost use Rattle.thr_wire.specs.Bytes.{TookAtMost, TookMoreThan};
 ghost use Rattle.thr_wire.specs.Causes.{Rose};
 ghost use Rattle.thr_text.specs.Reading.{Formed, Reads};
-ghost use Rattle.thr_model.specs.Built.{first_unbuilt};
+ghost use Rattle.thr_machine.specs.Built.{first_unbuilt};
 ghost use Rattle.thr_top.specs.Answers.{IsRunOne, IsCheck, IsCommand, IsScript, IsRun, RunAnswers, CheckAnswers, Ends, Writes, max_script, usage};
 
 use crate::answer::{give, unbuilt};

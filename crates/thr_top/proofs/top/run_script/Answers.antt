@@ -1,7 +1,7 @@
 use Rattle.std.proofs.Common.{refl, ◌∙◌, ap, sym, subst, ℕ}
 use Rattle.thr_syntax.specs.declared.tree.Script.{Script}
 use Rattle.thr_text.specs.Journals.{text}
-use Rattle.thr_model.specs.Built.{IsBuilt}
+use Rattle.thr_machine.specs.Built.{IsBuilt}
 use Rattle.thr_top.specs.Answers.{RunAnswers, answered, ran}
 use Rattle.thr_top.proofs.Endings.{ends-no-memory, no-memory-run, not-memory, few-of, few-built}
 use Rattle.thr_top.proofs.top.run_script.Goals as goal

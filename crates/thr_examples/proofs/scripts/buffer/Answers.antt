@@ -1,0 +1,19 @@
+use Rattle.std.proofs.Common.{refl, arith}
+use Rattle.thr_examples.specs.Words.{example_words}
+use Rattle.thr_examples.specs.Scripts as scripts
+use Rattle.thr_examples.proofs.Readings.{row_reads}
+use Rattle.thr_examples.proofs.scripts.buffer.Goals as goal
+
+pub returns : goal.returns
+unfolding example_words
+returns c = row_reads scripts.buffer (record {
+  canonical = refl;
+  same = refl;
+  plain = refl;
+  words = refl;
+  numbers = refl;
+  forms = refl;
+  blocks = refl;
+  limits = refl;
+  short = omega arith;
+})
