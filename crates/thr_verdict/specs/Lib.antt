@@ -1,0 +1,9 @@
+pub mod Report
+pub mod Verdicts
+pub mod Made
+pub mod Kinds
+pub mod Places
+pub mod FormedJournals
+pub mod FirstWrong
+pub mod Computing
+pub mod Samples
