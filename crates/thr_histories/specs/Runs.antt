@@ -1,0 +1,47 @@
+-- Worked scripts with their histories.
+use Rattle.std.specs.Prelude.{◌≡◌, ℕ, List}
+use Prim.Native.String.{String}
+use Rattle.thr_values.specs.declared.event.Event.{Event}
+use Rattle.thr_values.specs.declared.event.Stop.{Stop}
+use Rattle.thr_values.specs.declared.history.Entry.{Entry}
+use Rattle.thr_syntax.specs.declared.tree.Script.{Script}
+use Rattle.thr_syntax.specs.Canon.{canon}
+use Rattle.thr_model.specs.Histories.{Legal}
+use Rattle.thr_model.specs.Play.{Past, past_of, past_by, alone}
+use Rattle.thr_laws.specs.Routed.{Routed}
+use Rattle.thr_laws.specs.Owners.{OneOwner}
+use Rattle.thr_laws.specs.CancelLaw.{CancelLaw}
+use Rattle.thr_laws.specs.CallsOnce.{CallsOnce}
+use Rattle.thr_examples.specs.Rows.{row_text}
+use Rattle.thr_examples.specs.Pasted.{script_of, history_text}
+
+-- The history meets the four laws.
+pub record MeetsLaws (s : Script) (entries : List Entry) (stop : Stop) : Type 0 where
+  pub routed : Routed s entries
+  pub owners : OneOwner entries
+  pub cancels : CancelLaw s entries
+  pub calls : CallsOnce s entries stop
+
+-- Where the history of so many processors has come to this, it is this history, it is legal and stops so, and it meets the laws.
+-- Script and history are written in one line; the script is canonical.
+pub record Runs (row : String) (workers : ℕ) (past : Past) (history : String) (stop : Stop) : Type 0 where
+  pub script : canon (script_of row) ≡ row_text row
+  pub legal : Legal (script_of row) workers past.entries stop
+  pub text : history_text (script_of row) past.entries stop ≡ row_text history
+  pub laws : MeetsLaws (script_of row) past.entries stop
+
+-- How many events a worked history has at most.
+abbrev pub most_events : ℕ
+most_events = 400
+
+-- What one processor makes of a script.
+abbrev pub past_alone : Script → Past
+past_alone s = alone most_events s (past_of s)
+
+-- On one processor the script has this history, and stops so.
+abbrev pub RunsAlone : String → String → Stop → Type 0
+RunsAlone row history stop = Runs row 1 (past_alone (script_of row)) history stop
+
+-- By these events of so many processors the script has this history, and stops so.
+abbrev pub RunsBy : String → ℕ → List Event → String → Stop → Type 0
+RunsBy row workers events history stop = Runs row workers (past_by (script_of row) workers events) history stop

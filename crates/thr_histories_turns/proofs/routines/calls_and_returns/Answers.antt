@@ -1,0 +1,8 @@
+use Rattle.std.proofs.Common.{refl}
+use Rattle.thr_histories_turns.specs.Words.{history_words}
+use Rattle.thr_histories.proofs.Run.{runs-alone}
+use Rattle.thr_histories_turns.proofs.routines.calls_and_returns.Goals as goal
+
+pub returns : goal.returns
+unfolding history_words
+returns c = runs-alone _ _ _ refl refl refl refl

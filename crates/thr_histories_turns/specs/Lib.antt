@@ -1,0 +1,2 @@
+pub mod MachineScripts
+pub mod Words

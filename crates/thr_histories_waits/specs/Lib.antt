@@ -1,0 +1,2 @@
+pub mod WaitScripts
+pub mod Words
