@@ -1,5 +1,5 @@
 -- Lines of histories as values.
-use Rattle.std.specs.Prelude.{ℕ, ℤ, ◌+◌, ◌-◌, List, ◌++◌, length, replicate}
+use Rattle.std.specs.Prelude.{ℕ, ◌+◌, ◌-◌, List, ◌++◌, length, replicate}
 use Rattle.thr_values.specs.declared.number.NameId.{NameId}
 use Rattle.thr_values.specs.declared.number.Tid.{Tid}
 use Rattle.thr_values.specs.declared.number.Line.{Line}
@@ -23,12 +23,9 @@ thread t = record { 0 = t }
 abbrev pub at : ℕ → Line
 at l = record { 0 = l }
 
--- A line of a processor that dispatches a thread, of the clock, and of a thread.
+-- A line of a processor that dispatches a thread, and one of a thread.
 abbrev pub run : ℕ → ℕ → Entry
 run p t = record { who = who.Proc p; what = what.Run (thread t) }
-
-abbrev pub clock : ℤ → Entry
-clock n = record { who = who.Clock; what = what.Clock n }
 
 abbrev pub by : ℕ → What → Entry
 by t w = record { who = who.Thread (thread t); what = w }

@@ -28,6 +28,7 @@ is_argument (Word place) (arg.Word other) = place == other
 is_argument (Value e) (arg.Num n) = true
 is_argument _ _ = false
 
+-- No argument stands there (docs/journal.md, "Calls").
 abbrev pub is_absent : Arg → Bool
 is_absent arg.Nothing = true
 is_absent _ = false
@@ -48,6 +49,7 @@ abbrev pub is_of_shape : Shape → What → Bool
 is_of_shape sh (what.Call call args r) = is_same_word sh.word call && are_arguments sh.parts args
 is_of_shape sh _ = false
 
+-- The call's line is one of the statement that is there, if one is there and is a call (docs/laws.md, "Calls").
 abbrev pub is_of_form : Option Form → What → Bool
 is_of_form (Some (form.Dce call)) w = is_of_shape (shape_of call) w
 is_of_form _ w = false

@@ -49,10 +49,12 @@ is_owed_or_outward w = is_carried w
 
 -- ---- what a return's own step writes
 
+-- The call is `pthread_cond_timedwait` (docs/machine.md, "Errors").
 abbrev pub is_timed_wait : CallWord → Bool
 is_timed_wait word.CondTimedwait = true
 is_timed_wait _ = false
 
+-- The reply is `ok` (docs/journal.md, "Replies").
 abbrev pub is_done : Reply → Bool
 is_done reply.Done = true
 is_done _ = false
@@ -61,6 +63,7 @@ is_done _ = false
 abbrev pub raised_by : Interface → CallWord → Reply → Option Exc
 raised_by i call r = if is_timed_wait call && is_eagain r then None else raised_in i r
 
+-- There is such an exception, and it is this one (docs/machine.md, "Exceptions").
 abbrev pub is_exception : Exc → Option Exc → Bool
 is_exception x None = false
 is_exception x (Some y) = is_same x y
@@ -77,6 +80,7 @@ is_of_step s call args r (what.Raise n x) = is_exception x (raised_by (interface
 is_of_step s call args r (what.Once scope block) = is_done r && is_once_of block call args
 is_of_step s call args r _ = false
 
+-- The line is of the step in which the call of an earlier line returns with this reply (docs/laws.md, "Cancels").
 abbrev pub is_of_answer : Script → Reply → (answered : Option What) → What → Bool
 is_of_answer s r (Some (what.Call call args b)) w = is_of_step s call args r w
 is_of_answer s r _ w = false
@@ -93,6 +97,7 @@ abbrev pub gives_up : Lock → Use → Bool
 gives_up lock (GivesUp m) = is_same_lock m lock
 gives_up lock _ = false
 
+-- The line is a wait on a condition with this mutex that blocks (docs/laws.md, "Cancels").
 abbrev pub is_wait_with : Lock → What → Bool
 is_wait_with lock w = gives_up lock (use_of w)
 
@@ -158,6 +163,7 @@ pub record Both : Type 0 where
   pub thread : Known
   pub lock : Held
 
+-- What is known of a thread and of a lock after a line (docs/laws.md, "Cancels").
 abbrev pub both_after : ℕ → Lock → Both → Entry → Both
 both_after t lock b e = record { thread = known_after t b.thread e; lock = held_after lock b.lock e }
 

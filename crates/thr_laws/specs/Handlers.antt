@@ -11,7 +11,7 @@ use Rattle.thr_remainder.specs.declared.unwinding.Cause.TheVariants.{Raised, Exi
 use Rattle.thr_remainder.specs.Declarations.{exception_value}
 use Rattle.thr_remainder.specs.Expressions.{is_same}
 
--- A clause of a try: `catch` with its line and exception, `catch_all` with its line, or `finally`.
+-- A clause of a try: `catch` with its line and exception, `catch_all` with its line, or `finally` (docs/laws.md, "Routes").
 pub data Clause : Type 0 where
   Catch : (line : ℕ) (name : NameId) → Clause
   CatchAll : (line : ℕ) → Clause

@@ -17,10 +17,12 @@ use Rattle.thr_laws.specs.Lines.{own_line, is_delivery, is_end, is_some_line}
 
 -- ---- cancels of a thread
 
+-- The reply, where it is that of a cancel of this thread (docs/laws.md, "Cancels").
 abbrev pub reply_if : Bool → Reply → Option Reply
 reply_if true r = Some r
 reply_if false r = None
 
+-- The reply of a call, where that is a cancel of this thread (docs/laws.md, "Cancels").
 abbrev pub cancel_by : ℕ → CallWord → List Arg → Reply → Option Reply
 cancel_by t word.Cancel (arg.Num n ∷ args) r = reply_if (int_eq n (pos t)) r
 cancel_by t _ args r = None
@@ -36,6 +38,7 @@ is_to_deliver (Some (reply.Effect effect.Pending)) = true
 is_to_deliver (Some (reply.Effect effect.Wakes)) = true
 is_to_deliver _ = false
 
+-- The cancel woke the thread: its reply is `wakes` (docs/laws.md, "Cancels").
 abbrev pub is_wakes : Option Reply → Bool
 is_wakes (Some (reply.Effect effect.Wakes)) = true
 is_wakes _ = false
@@ -46,10 +49,12 @@ is_wakes _ = false
 abbrev pub is_on : ℕ → Bool
 is_on place = place == 0
 
+-- General cancelability after this call of the thread, which sets it or leaves it (docs/laws.md, "Cancels").
 abbrev pub general_by : CallWord → List Arg → Bool → Bool
 general_by word.Setcancel (arg.Word place ∷ args) before = is_on place
 general_by _ args before = before
 
+-- Asynchronous cancelability after this call of the thread, which sets it or leaves it (docs/laws.md, "Cancels").
 abbrev pub asynchronous_by : CallWord → List Arg → Bool → Bool
 asynchronous_by word.Setasynccancel (arg.Word place ∷ args) before = is_on place
 asynchronous_by _ args before = before

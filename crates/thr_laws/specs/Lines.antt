@@ -23,6 +23,7 @@ is_by t (who.Thread u) = u.0 == t
 is_by t (who.Proc p) = false
 is_by t who.Clock = false
 
+-- These lines with one more in front, where it is of the thread (docs/laws.md, "How the laws read lines").
 abbrev pub with_line : Bool → What → List What → List What
 with_line true w ws = w ∷ ws
 with_line false w ws = ws
@@ -51,6 +52,7 @@ fits next test known (line ∷ lines) = test known line && fits next test (next 
 
 -- ---- kinds of lines
 
+-- The reply is `blocks` (docs/journal.md, "Replies").
 abbrev pub is_blocks : Reply → Bool
 is_blocks reply.Blocks = true
 is_blocks _ = false
@@ -60,14 +62,17 @@ abbrev pub is_waiting_call : What → Bool
 is_waiting_call (what.Call word args r) = is_blocks r
 is_waiting_call _ = false
 
+-- The return of a call that waited (docs/journal.md, "The lines").
 abbrev pub is_return : What → Bool
 is_return (what.Ret r) = true
 is_return _ = false
 
+-- A cancel is delivered (docs/journal.md, "The lines").
 abbrev pub is_delivery : What → Bool
 is_delivery (what.Deliver n line) = true
 is_delivery _ = false
 
+-- The thread ends (docs/journal.md, "The lines").
 abbrev pub is_end : What → Bool
 is_end (what.End v) = true
 is_end _ = false

@@ -24,6 +24,7 @@ use Rattle.thr_laws.specs.Lines.{fits}
 abbrev pub Lock : Type 0
 Lock = Option NameId
 
+-- The two are the same mutex, or are both the global lock (docs/laws.md, "Owners").
 abbrev pub is_same_lock : Lock → Lock → Bool
 is_same_lock None None = true
 is_same_lock (Some m) (Some n) = m.0 == n.0
@@ -40,6 +41,7 @@ pub data Use : Type 0 where
   GivesUp : (lock : Lock) → Use
   Nothing : Use
 
+-- This use of a lock, where it is made, and else none (docs/laws.md, "Owners").
 abbrev pub used_if : Bool → Use → Use
 used_if true u = u
 used_if false u = Nothing
@@ -63,6 +65,7 @@ use_blocked word.CondWait (c ∷ arg.Name m ∷ args) = GivesUp (Some m)
 use_blocked word.CondTimedwait (c ∷ arg.Name m ∷ args) = GivesUp (Some m)
 use_blocked _ args = Nothing
 
+-- What a call with this reply does with a lock (docs/laws.md, "Owners").
 abbrev pub use_by_call : Reply → CallWord → List Arg → Use
 use_by_call reply.Done call args = use_done call args
 use_by_call (reply.Value n) call args = use_valued (int_eq n (pos 1)) call args
@@ -86,11 +89,13 @@ abbrev pub kind_in : Cells → ℕ → Kind
 kind_in [] cell = Fast
 kind_in (c ∷ cells) cell = if c.0 == cell then c.1 else kind_in cells cell
 
+-- The kind that a fixed word names, by its place: fast, recursive, nonrecursive (docs/journal.md, "Calls").
 abbrev pub kind_word : ℕ → Kind
 kind_word zero = Fast
 kind_word (suc zero) = Recursive
 kind_word (suc (suc n)) = Nonrecursive
 
+-- The kinds of attribute cells after this call, which replied `ok` (docs/laws.md, "Owners").
 abbrev pub cells_done : CallWord → List Arg → Cells → Cells
 cells_done word.MutexattrCreate (arg.Name cell ∷ args) cells = (cell.0, Fast) ∷ cells
 cells_done word.MutexattrSetkindNp (arg.Name cell ∷ arg.Word place ∷ args) cells = (cell.0, kind_word place) ∷ cells
@@ -101,6 +106,7 @@ abbrev pub kind_by : Cells → Arg → Kind
 kind_by cells (arg.Name cell) = kind_in cells cell.0
 kind_by cells _ = Fast
 
+-- The kind of a lock after this call, which replied `ok` (docs/laws.md, "Owners").
 abbrev pub kind_done : Lock → CallWord → List Arg → Cells → Kind → Kind
 kind_done (Some m) word.MutexInit (arg.Name n ∷ cell ∷ args) cells kind = if n.0 == m.0 then kind_by cells cell else kind
 kind_done _ _ args cells kind = kind
@@ -116,24 +122,28 @@ abbrev pub kind_after : Lock → What → Cells → Kind → Kind
 kind_after lock (what.Call call args reply.Done) cells kind = kind_done lock call args cells kind
 kind_after lock _ cells kind = kind
 
+-- The kind of a lock before the first line: recursive for the global lock, fast for a mutex (docs/laws.md, "Owners").
 abbrev pub first_kind : Lock → Kind
 first_kind None = Recursive
 first_kind (Some m) = Fast
 
+-- The kind is recursive (docs/laws.md, "Owners").
 abbrev pub is_recursive : Kind → Bool
 is_recursive Recursive = true
 is_recursive _ = false
 
 -- ---- owners
 
--- Who owns a lock, and how often it is locked.
+-- Who owns a lock, and how often it is locked (docs/laws.md, "Owners").
 pub record Owner : Type 0 where
   pub thread : ℕ
   pub depth : ℕ
 
+-- This thread owns it, locked so often (docs/laws.md, "Owners").
 abbrev pub owned : ℕ → ℕ → Option Owner
 owned t depth = Some (record { thread = t; depth = depth })
 
+-- There is an owner, and it is this thread (docs/laws.md, "Owners").
 abbrev pub is_owner : ℕ → Option Owner → Bool
 is_owner t None = false
 is_owner t (Some o) = o.thread == t
@@ -149,10 +159,12 @@ depth_left t zero = None
 depth_left t (suc zero) = None
 depth_left t (suc (suc depth)) = owned t (suc depth)
 
+-- The owner after one lock is taken away (docs/laws.md, "Owners").
 abbrev pub unlocked : Option Owner → Option Owner
 unlocked None = None
 unlocked (Some o) = depth_left o.thread o.depth
 
+-- The owner after a use, where that is of this lock, and else the owner before it (docs/laws.md, "Owners").
 abbrev pub owner_if : Bool → Option Owner → Option Owner → Option Owner
 owner_if true after before = after
 owner_if false after before = before
@@ -167,15 +179,17 @@ owner_after lock t Nothing owner = owner
 
 -- ---- along the lines
 
--- What is known of a lock: the kinds of attribute cells, its own kind, and its owner.
+-- What is known of a lock: the kinds of attribute cells, its own kind, and its owner (docs/laws.md, "Owners").
 pub record Held : Type 0 where
   pub cells : Cells
   pub kind : Kind
   pub owner : Option Owner
 
+-- What is known of a lock before the first line: nobody owns it (docs/laws.md, "Owners").
 abbrev pub at_first : Lock → Held
 at_first lock = record { cells = []; kind = first_kind lock; owner = None }
 
+-- The owner of a lock after a line, which changes it only where it is one of a thread (docs/laws.md, "Owners").
 abbrev pub owner_by : Lock → Who → What → Option Owner → Option Owner
 owner_by lock (who.Thread t) w owner = owner_after lock t.0 (use_of w) owner
 owner_by lock _ w owner = owner
@@ -194,6 +208,7 @@ owner entries lock = (fold (held_after lock) (at_first lock) entries).owner
 
 -- ---- the law
 
+-- Where the two are the same lock, this holds (docs/laws.md, "Owners").
 abbrev pub if_same : Lock → Lock → Bool → Bool
 if_same m lock fits = not (is_same_lock m lock) || fits
 
@@ -206,6 +221,7 @@ may_use lock kind owner t (Unlocks m) = if_same m lock (is_owner t owner)
 may_use lock kind owner t (GivesUp m) = if_same m lock (is_owner t owner)
 may_use lock kind owner t Nothing = true
 
+-- Where the line is one of a thread, the thread may do this with the lock (docs/laws.md, "Owners").
 abbrev pub may_use_by : Lock → Held → Who → What → Bool
 may_use_by lock h (who.Thread t) w = may_use lock h.kind h.owner t.0 (use_of w)
 may_use_by lock h _ w = true

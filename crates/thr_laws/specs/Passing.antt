@@ -21,15 +21,18 @@ use Rattle.thr_laws.specs.CallsOnce.{is_answered, answers_a_call, names_its_stat
 
 -- ---- named threads
 
+-- The thread whose line this is, if it is one of a thread (docs/laws.md, "How the laws read lines").
 abbrev pub thread_of : Who → Option ℕ
 thread_of (who.Thread t) = Some t.0
 thread_of (who.Proc p) = None
 thread_of who.Clock = None
 
+-- The thread that an argument names by its number, where that isn't negative (docs/laws.md, "Tests of the laws").
 abbrev pub numbered : ℤ → Option ℕ
 numbered (pos n) = Some n
 numbered (negsuc n) = None
 
+-- The thread that a call cancels, if it cancels one (docs/laws.md, "Tests of the laws").
 abbrev pub cancelled_by : CallWord → List Arg → Option ℕ
 cancelled_by word.Cancel (arg.Num n ∷ args) = numbered n
 cancelled_by _ args = None
@@ -39,13 +42,16 @@ abbrev pub cancelled_in : What → Option ℕ
 cancelled_in (what.Call call args r) = cancelled_by call args
 cancelled_in _ = None
 
+-- The thread is among these (docs/laws.md, "Tests of the laws").
 abbrev pub is_one_of : ℕ → List ℕ → Bool
 is_one_of t ts = list_any (λ u. u == t) ts
 
+-- These threads where this one is among them, and else with this one more (docs/laws.md, "Tests of the laws").
 abbrev pub added_if : Bool → ℕ → List ℕ → List ℕ
 added_if true t ts = ts
 added_if false t ts = t ∷ ts
 
+-- These threads and one more, if one is there (docs/laws.md, "Tests of the laws").
 abbrev pub with_thread : Option ℕ → List ℕ → List ℕ
 with_thread None ts = ts
 with_thread (Some t) ts = added_if (is_one_of t ts) t ts
@@ -57,6 +63,7 @@ threads_in (e ∷ entries) = with_thread (thread_of e.who) (with_thread (cancell
 
 -- ---- named locks
 
+-- The lock with which something is done, if anything is (docs/laws.md, "Tests of the laws").
 abbrev pub lock_of : Use → Option Lock
 lock_of (Locks lock) = Some lock
 lock_of (Gives lock) = Some lock
@@ -64,13 +71,16 @@ lock_of (Unlocks lock) = Some lock
 lock_of (GivesUp lock) = Some lock
 lock_of Nothing = None
 
+-- The lock is among these (docs/laws.md, "Tests of the laws").
 abbrev pub is_lock_of : Lock → List Lock → Bool
 is_lock_of lock locks = list_any (λ other. is_same_lock other lock) locks
 
+-- These locks where this one is among them, and else with this one more (docs/laws.md, "Tests of the laws").
 abbrev pub lock_added_if : Bool → Lock → List Lock → List Lock
 lock_added_if true lock locks = locks
 lock_added_if false lock locks = lock ∷ locks
 
+-- These locks and one more, if one is there (docs/laws.md, "Tests of the laws").
 abbrev pub with_lock : Option Lock → List Lock → List Lock
 with_lock None locks = locks
 with_lock (Some lock) locks = lock_added_if (is_lock_of lock locks) lock locks
@@ -102,9 +112,11 @@ pub data Part : Type 0 where
   IsWokenFromIt : Part
   FinishesAnswered : Part
 
+-- Each thread that the lines name passes the test (docs/laws.md, "Tests of the laws").
 abbrev pub each_thread : List Entry → (ℕ → Bool) → Bool
 each_thread entries test = list_all test (threads_in entries)
 
+-- Each lock that the lines name passes the test (docs/laws.md, "Tests of the laws").
 abbrev pub each_lock : List Entry → (Lock → Bool) → Bool
 each_lock entries test = list_all test (locks_in entries)
 
@@ -128,12 +140,15 @@ passes s entries stop NamesItsStatement = each_thread entries (λ t. each_own_li
 passes s entries stop IsWokenFromIt = each_thread entries (λ t. each_own_line is_woken_from_it t entries)
 passes s entries stop FinishesAnswered = each_thread entries (λ t. ends_answered stop t entries)
 
+-- The parts of the law that each unwinding takes its route (docs/laws.md, "Routes").
 abbrev pub routed_parts : List Part
 routed_parts = Numbered ∷ MadeBeforeCarried ∷ AlongItsRoute ∷ WholeRoute ∷ StraightOn ∷ []
 
+-- The parts of the law that cancels are delivered when they must and may be (docs/laws.md, "Cancels").
 abbrev pub cancel_parts : List Part
 cancel_parts = DeliversOutstanding ∷ HasItsEffect ∷ PassesNoPoint ∷ DeliversAtOnce ∷ DeliversWhenWoken ∷ EndsWithItsMutex ∷ []
 
+-- The parts of the law that each call that waits is answered once (docs/laws.md, "Calls").
 abbrev pub calls_parts : List Part
 calls_parts = IsAnswered ∷ AnswersACall ∷ NamesItsStatement ∷ IsWokenFromIt ∷ FinishesAnswered ∷ []
 

@@ -16,6 +16,7 @@ use Rattle.thr_laws.specs.Routes.{Carried, Catches, RunsFinally, Undoes, Loses, 
 
 -- ---- unwindings that are made
 
+-- An unwinding with this number and this cause is made (docs/laws.md, "Routes").
 abbrev pub makes : ℕ → Cause → Option Unwinding
 makes n cause = Some (record { number = n; cause = cause })
 
@@ -27,13 +28,15 @@ made_by (what.Deliver n line) = makes n (Raised cancel_e)
 made_by (what.Exit n v) = makes n (Exit v)
 made_by _ = None
 
--- An unwinding where it is made: the scopes open just before its line, and the thread's lines after it.
+-- An unwinding where it is made: the scopes open just before its line, and the thread's lines after it (docs/laws.md,
+-- "Routes").
 pub record Making : Type 0 where
   pub number : ℕ
   pub cause : Cause
   pub scopes : List Open
   pub after : List What
 
+-- These unwindings with one more in front, where the line makes one (docs/laws.md, "Routes").
 abbrev pub with_making : Option Unwinding → List Open → List What → List Making → List Making
 with_making None scopes after makings = makings
 with_making (Some u) scopes after makings = record { number = u.number; cause = u.cause; scopes = scopes; after = after } ∷ makings
@@ -62,6 +65,7 @@ are_numbered n (m ∷ makings) = (m.number == n) && are_numbered (n + 1) makings
 abbrev pub numbers_count_up : List What → Bool
 numbers_count_up lines = are_numbered 1 (makings lines)
 
+-- These numbers with one more in front, where an unwinding is made (docs/laws.md, "Routes").
 abbrev pub with_number : List ℕ → Option Unwinding → List ℕ
 with_number numbers None = numbers
 with_number numbers (Some u) = u.number ∷ numbers
@@ -70,6 +74,7 @@ with_number numbers (Some u) = u.number ∷ numbers
 abbrev pub numbers_after : List ℕ → What → List ℕ
 numbers_after numbers w = with_number numbers (made_by w)
 
+-- The number that is carried, if one is, is among these (docs/laws.md, "Routes").
 abbrev pub is_among : List ℕ → Option Carrying → Bool
 is_among numbers None = true
 is_among numbers (Some c) = list_any (λ n. n == c.number) numbers
@@ -114,6 +119,7 @@ abbrev pub passes_by : ℕ → List Open → Option Carrying → Bool
 passes_by n outer None = false
 passes_by n outer (Some c) = not (c.number == n) && is_at outer c.entry
 
+-- The line is the end of this scope's FINALLY body (docs/laws.md, "Open scopes").
 abbrev pub ends_finally : ℕ → What → Bool
 ends_finally scope (what.Endfin other) = other == scope
 ends_finally scope _ = false
@@ -124,10 +130,12 @@ is_left_by_another n scope outer [] = false
 is_left_by_another n scope outer (w ∷ lines) =
     passes_by n outer (carried w) || (not (ends_finally scope w) && is_left_by_another n scope outer lines)
 
+-- The unwinding began a FINALLY body last, and another then left that body (docs/laws.md, "Routes").
 abbrev pub replaced_at : ℕ → List Open → Carried → List What → Bool
 replaced_at n scopes (RunsFinally scope) lines = is_left_by_another n scope (outside scope scopes) lines
 replaced_at n scopes _ lines = false
 
+-- The same of the last line that carries the unwinding, if there is one (docs/laws.md, "Routes").
 abbrev pub replaced_after : ℕ → List Open → Option (Carried × List What) → Bool
 replaced_after n scopes None = false
 replaced_after n scopes (Some last) = replaced_at n scopes last.0 last.1
@@ -148,6 +156,7 @@ take_whole_routes s lines =
 
 -- ---- no line between
 
+-- The line is `pause` (docs/journal.md, "The lines").
 abbrev pub is_pause : What → Bool
 is_pause what.Pause = true
 is_pause _ = false
@@ -157,6 +166,7 @@ abbrev pub behind : Carried → List Carried → List Carried
 behind c [] = []
 behind c (r ∷ route) = if is_same_entry c r then route else behind c route
 
+-- There is an entry, and it is the first of this route (docs/laws.md, "Routes").
 abbrev pub is_head : List Carried → Option Carried → Bool
 is_head [] entry = false
 is_head (r ∷ route) None = false
@@ -167,6 +177,7 @@ abbrev pub comes_next : ℕ → List Carried → List What → Bool
 comes_next n route [] = true
 comes_next n route (w ∷ lines) = if is_pause w then comes_next n route lines else is_head route (carried_by n w)
 
+-- The scope is in a FINALLY body that runs for this unwinding (docs/laws.md, "Open scopes").
 abbrev pub runs_for : ℕ → Stage → Bool
 runs_for n (InFinally m) = m == n
 runs_for n _ = false
@@ -182,6 +193,7 @@ goes_on_from n scopes (what.Undone scope m) = if m == n then Some (Undoes scope)
 goes_on_from n scopes (what.Endfin scope) = if list_any (is_finally_for n scope) scopes then Some (RunsFinally scope) else None
 goes_on_from n scopes _ = None
 
+-- Where an entry is there, what is behind it in the route comes next (docs/laws.md, "Routes").
 abbrev pub goes_behind : ℕ → List Carried → Option Carried → List What → Bool
 goes_behind n route None lines = true
 goes_behind n route (Some c) lines = comes_next n (behind c route) lines

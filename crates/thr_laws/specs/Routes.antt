@@ -31,11 +31,12 @@ is_same_entry _ _ = false
 
 -- ---- carried lines
 
--- An unwinding's number with an entry of its route.
+-- An unwinding's number with an entry of its route (docs/laws.md, "Routes").
 pub record Carrying : Type 0 where
   pub number : ℕ
   pub entry : Carried
 
+-- An unwinding with this number is carried to this entry (docs/laws.md, "Routes").
 abbrev pub carries : ℕ → Carried → Option Carrying
 carries n entry = Some (record { number = n; entry = entry })
 
@@ -49,6 +50,7 @@ carried (what.Lost scope n) = carries n (Loses scope)
 carried (what.Bottom n v) = carries n (Leaves v)
 carried _ = None
 
+-- The entry, where it is the unwinding with this number that is carried (docs/laws.md, "Routes").
 abbrev pub entry_with : ℕ → Option Carrying → Option Carried
 entry_with n None = None
 entry_with n (Some c) = if c.number == n then Some c.entry else None

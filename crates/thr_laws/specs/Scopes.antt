@@ -13,7 +13,7 @@ pub data Stage : Type 0 where
   InOnce : Stage
   InDestructor : Stage
 
--- An open scope: its number, and what it is at.
+-- An open scope: its number, and what it is at (docs/laws.md, "Open scopes").
 pub record Open : Type 0 where
   pub scope : ℕ
   pub stage : Stage

@@ -1,4 +1,4 @@
--- States of the machine in which thread 1 runs the routine `main` and is alone.
+-- States of the machine in which thread 1 runs the routine `main` and is alone (docs/machine.md, "What is built").
 use Rattle.std.specs.Prelude.{ℕ, ◌-◌, ◌==◌, pos, [], ◌∷◌, if◌then◌else◌, None}
 use Rattle.thr_syntax.specs.declared.tree.Script.{Script}
 use Rattle.thr_remainder.specs.Places.{Left}
@@ -23,13 +23,16 @@ pub data Standing : Type 0 where
   Running : (processor slice : ℕ) → Standing
   Ended : Standing
 
+-- The record of thread 1, as at the opening or ended with value 0 (docs/machine.md, "Thread records").
 abbrev pub threads_of : Standing → Threads
 threads_of Ended = set_ended first_threads (thread 1) (pos 0)
 threads_of _ = first_threads
 
+-- Thread 1 at this place, with the rank that it has from the opening on (docs/machine.md, "Ranks and arrivals").
 abbrev pub seat_at : Place → Seat
 seat_at place = record { rank = rank_at first_threads (thread 1); place = place }
 
+-- Thread 1 in the row of ready threads, on its processor, or nowhere once it has ended (docs/machine.md, "Rows").
 abbrev pub seats_of : Standing → Table Seat
 seats_of Ready = put none 1 (seat_at (Stands row.Ready 0))
 seats_of (Running p slice) = put none 1 (seat_at (Runs p slice))
@@ -46,6 +49,7 @@ in_main left = record {
   unwindings = 0;
 }
 
+-- What is left to do in thread 1, where it has not ended (docs/machine.md, "What is left to do").
 abbrev pub remainders_of : Standing → Left → Table Remainder
 remainders_of Ended left = none
 remainders_of _ left = put none 1 (in_main left)

@@ -1,4 +1,4 @@
--- Statements that say numbers.
+-- Statements that say numbers (docs/machine.md, "What is built").
 use Rattle.std.specs.Prelude.{ℕ, ◌+◌, List, [], ◌∷◌, drop, ⊤}
 use Rattle.thr_syntax.specs.declared.expr.Expr.TheVariants as expr
 use Rattle.thr_syntax.specs.declared.tree.Item.{Item}
@@ -22,6 +22,7 @@ abbrev pub IsSay : Stmt → Type 0
 IsSay (stmt.Say (expr.Num n)) = ⊤
 IsSay _ = ⊥
 
+-- Each of the statements says a number (docs/machine.md, "What is built").
 abbrev pub AllSay : List Stmt → Type 0
 AllSay [] = ⊤
 AllSay (s ∷ ss) = IsSay s × AllSay ss

@@ -1,4 +1,4 @@
--- What a book stands for, and what its calls do.
+-- What a book stands for, and what its calls do (docs/theorems.md, "The book").
 use Rattle.std.specs.Prelude.{◌≡◌, ℕ, ◌+◌, ◌-◌, ◌≤◌, ◌<◌, List, [], ◌++◌, length, Option, None, Some, IfSome, vec_len, vec_capacity}
 use Rattle.thr_values.specs.declared.event.Event.{Event}
 use Rattle.thr_values.specs.declared.event.Stop.{Stop}
@@ -17,14 +17,17 @@ use Rattle.thr_machine.specs.declared.book.Book.TheInside.{Inside}
 
 -- ---- the representation
 
+-- Where the thread of a book is, with so many turns left of its slice (docs/theorems.md, "The book").
 abbrev pub standing_of : Phase → ℕ → Standing
 standing_of phase.Ready slice = Ready
 standing_of phase.OnProcessor slice = Running 0 slice
 standing_of phase.Over slice = Ended
 
+-- The state for which a book stands (docs/theorems.md, "The book").
 abbrev pub state_of : Inside → State
 state_of a = alone_at a.script (standing_of a.phase a.slice) (left_of (main_body a.script.items) a.place)
 
+-- What contracts see of a book with these fields (docs/theorems.md, "The book").
 abbrev pub view_of : Inside → BookView
 view_of a = record {
   script = a.script;
@@ -40,7 +43,7 @@ view_of a = record {
 abbrev pub stop_of : BookView → Option Stop
 stop_of b = stop_at b.script b.state (length b.entries)
 
--- The state is that of the history, by some events.
+-- The state is that of the history, by some events (docs/theorems.md, "The book").
 pub record IsReached (b : BookView) : Type 0 where
   pub events : List Event
   pub history : History b.script b.workers b.state events b.entries b.turns
@@ -54,7 +57,7 @@ pub record IsKept (a : Inside) : Type 0 where
 
 -- ---- contracts
 
--- A book that was opened now.
+-- A book that was opened now (docs/theorems.md, "The book").
 pub record IsOpened (b : BookView) (s : Script) (n : ℕ) : Type 0 where
   pub script : b.script ≡ s
   pub workers : b.workers ≡ n
@@ -69,7 +72,8 @@ pub record IsOpen (b : BookView) : Type 0 where
   pub no_stop : stop_of b ≡ None
   pub room : 1 ≤ b.room
 
--- This event was made and wrote its lines, of which there is one at least; but for the room nothing else has changed.
+-- This event was made and wrote its lines, of which there is one at least; but for the room nothing else has changed
+-- (docs/theorems.md, "The book").
 pub record Makes (old new : BookView) (e : Event) : Type 0 where
   pub made : Made
   pub is_made : made_by old.script old.workers old.state e ≡ Some made

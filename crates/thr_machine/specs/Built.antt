@@ -39,6 +39,7 @@ first_unbuilt s = option_map (λ n. n + 1) (position (λ f. not (is_built s.name
 
 -- ---- scripts
 
+-- The statement that says this number (docs/script.md, "Lines").
 abbrev pub say : ℤ → Stmt
 say n = stmt.Say (expr.Num n)
 
@@ -62,6 +63,7 @@ IsBuiltLine (what.Say n) = ⊤
 IsBuiltLine (what.End v) = ⊤
 IsBuiltLine _ = ⊥
 
+-- Each line is one that the machine makes so far (docs/machine.md, "What is built").
 abbrev pub AreBuiltLines : List Entry → Type 0
 AreBuiltLines [] = ⊤
 AreBuiltLines (e ∷ es) = IsBuiltLine e.what × AreBuiltLines es

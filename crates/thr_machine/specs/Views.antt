@@ -1,10 +1,11 @@
--- What contracts see of a book.
+-- What contracts see of a book (docs/theorems.md, "The book").
 use Rattle.std.specs.Prelude.{ℕ, List, Option}
 use Rattle.thr_values.specs.declared.event.Stop.{Stop}
 use Rattle.thr_values.specs.declared.history.Entry.{Entry}
 use Rattle.thr_syntax.specs.declared.tree.Script.{Script}
 use Rattle.thr_model.specs.States.{State}
 
+-- A book as contracts see it: script, workers, state, history, the stop that it took, and room (docs/theorems.md, "The book").
 pub record BookView : Type 0 where
   pub script : Script
   pub workers : ℕ

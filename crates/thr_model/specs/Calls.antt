@@ -49,9 +49,11 @@ answers y st = record { reply = y; state = st; gifts = []; runs = false }
 
 -- ---- threads
 
+-- A call on threads or attribute cells: its reply, and the records and cells after it (docs/machine.md, "Thread records").
 abbrev pub on_threads : State → ThreadsReply → Answered
 on_threads st o = answers o.reply (record st { threads = o.threads })
 
+-- The rows where the new thread is ready, or where they stay as they are (docs/machine.md, "Rows").
 abbrev pub ready_if : Bool → (Tid → ℕ) → Rows → Tid → Rows
 ready_if true rank rs t = make_ready rank rs t
 ready_if false rank rs t = rs
@@ -70,6 +72,7 @@ abbrev pub joins : State → Tid → ℤ → Reply → Answered
 joins st t target y =
     answers y (record st { rows = block_if (is_blocks y) st.rows (row.Join (thread (natural target))) t (rank_of st t) })
 
+-- The rows where the thread has its new rank, or where they stay as they are (docs/machine.md, "Ranks and arrivals").
 abbrev pub rank_if : Bool → Threads → Rows → Tid → Rows
 rank_if true ths rs t = set_rank rs t (rank_at ths t)
 rank_if false ths rs t = rs
@@ -100,6 +103,7 @@ wakes st target o c = record {
   runs = false;
 }
 
+-- A cancel with this reply: `wakes` ends the thread's wait, any other reply leaves it (docs/machine.md, "Cancels").
 abbrev pub cancelled : State → Tid → ThreadsReply → Reply → Answered
 cancelled st target o (reply.Effect effect.Wakes) = wakes st target o (cancel_wait (rank_of st) st.conds st.pipes st.locks st.rows target)
 cancelled st target o y = on_threads st o
@@ -113,9 +117,11 @@ cancels_thread st target =
 
 -- ---- mutexes and the global lock
 
+-- A call on mutexes or their attribute cells: its reply, and both after it (docs/machine.md, "Mutexes").
 abbrev pub on_locks : State → LocksReply → Answered
 on_locks st o = answers o.reply (record st { locks = o.locks })
 
+-- A lock of a mutex or of the global lock: its reply, and the locks and rows after it (docs/machine.md, "Mutexes").
 abbrev pub locks_it : State → Locked → Answered
 locks_it st o = answers o.reply (record st { locks = o.locks; rows = o.rows })
 
@@ -124,6 +130,7 @@ abbrev pub given_state : State → Rows → Option Tid → State
 given_state st rs None = record st { rows = rs }
 given_state st rs (Some t) = record st { rows = make_ready (rank_of st) rs t; debts = owes_or_keeps st.debts (Return reply.Done) t }
 
+-- The gift of this mutex, or of the global lock, where a thread was given it (docs/machine.md, "Mutexes").
 abbrev pub gifts_of : Option Tid → Option NameId → Gifts
 gifts_of None m = []
 gifts_of (Some t) m = (t, m) ∷ []
@@ -139,6 +146,7 @@ unlocks st m o = record {
 
 -- ---- conditions and times
 
+-- A condition is made, or isn't any more: the reply, and the conditions after it (docs/machine.md, "Conditions").
 abbrev pub on_conds : State → CondsReply → Answered
 on_conds st o = answers o.reply (record st { conds = o.conds })
 
@@ -151,6 +159,7 @@ waits st m o = record {
   runs = false;
 }
 
+-- A delay: its reply, and the waits and rows after it (docs/machine.md, "Times").
 abbrev pub delays : State → Delayed → Answered
 delays st o = answers o.reply (record st { conds = o.conds; rows = o.rows })
 
@@ -163,6 +172,7 @@ regains y st t m o = record {
   runs = false;
 }
 
+-- A signal by which this waiter left the condition, or none (docs/machine.md, "Conditions").
 abbrev pub signals_one : State → Signalled → Option (Tid × NameId) → Answered
 signals_one st o None = answers o.reply (record st { conds = o.conds; rows = o.rows })
 signals_one st o (Some w) = regains o.reply (record st { conds = o.conds }) w.0 w.1 (regain st.locks o.rows w.1 w.0 (rank_of st w.0))
@@ -191,6 +201,7 @@ notifies st o = record {
 abbrev pub enters : State → Entered → Answered
 enters st o = record { reply = o.reply; state = record st { onces = o.onces; rows = o.rows }; gifts = []; runs = o.runs }
 
+-- A call that makes a key or sets a value of one: its reply, and the keys after it (docs/machine.md, "Keys").
 abbrev pub on_onces : State → OncesReply → Answered
 on_onces st o = answers o.reply (record st { onces = o.onces })
 
@@ -219,10 +230,12 @@ closes st o = answers o.reply (record st {
 
 -- ---- the calls
 
+-- The value of the first expression of a call, or 0 where it has none (docs/machine.md, "Calls").
 abbrev pub first : List ℤ → ℤ
 first [] = pos 0
 first (n ∷ ns) = n
 
+-- The value of the second expression of a call, or 0 where it has none (docs/machine.md, "Calls").
 abbrev pub second : List ℤ → ℤ
 second [] = pos 0
 second (n ∷ ns) = first ns

@@ -20,9 +20,11 @@ use Rattle.thr_model.specs.Turns.{Made, gift_lines, turn_of}
 
 -- ---- dispatch
 
+-- The line of a dispatch (docs/journal.md, "The lines").
 abbrev pub run_line : ℕ → Tid → Entry
 run_line p t = record { who = who.Proc p; what = what.Run t }
 
+-- The state and the line of a dispatch, where the processor took a thread (docs/machine.md, "Events").
 abbrev pub dispatch_made : State → ℕ → Dispatched → Option Tid → Option Made
 dispatch_made st p o None = None
 dispatch_made st p o (Some t) = Some (record { state = record st { rows = o.rows }; lines = run_line p t ∷ [] })
@@ -33,6 +35,7 @@ dispatch_of st p = let o : Dispatched = dispatch st.rows p in dispatch_made st p
 
 -- ---- the clock
 
+-- The line of a move of the clock (docs/journal.md, "The lines").
 abbrev pub clock_line : ℤ → Entry
 clock_line n = record { who = who.Clock; what = what.Clock n }
 
@@ -41,10 +44,12 @@ abbrev pub due_debt : Option NameId → Debt
 due_debt None = Return reply.Done
 due_debt (Some m) = Return reply.Eagain
 
+-- What threads owe once these have stopped waiting for a time (docs/machine.md, "Times").
 abbrev pub due_owe : Table Debt → List (Tid × Option NameId) → Table Debt
 due_owe debts [] = debts
 due_owe debts (w ∷ ws) = due_owe (owes debts (due_debt w.1) w.0) ws
 
+-- The state and the lines of a move of the clock: its own line, and then the gifts (docs/machine.md, "Events").
 abbrev pub clock_made : State → ℤ → Woken → Made
 clock_made st now o = record {
   state = record st { conds = o.conds; locks = o.locks; rows = o.rows; debts = due_owe st.debts o.woken; clock = now };
@@ -62,6 +67,7 @@ clock_to st now = clock_made st now (expire_all (rank_of st) st.conds st.locks s
 
 -- ---- events
 
+-- The move of the clock, where no thread is ready or runs and one waits for a time (docs/machine.md, "Events").
 abbrev pub clock_of : Bool → State → Option Made
 clock_of true st = None
 clock_of false st = option_map (clock_to st) (earliest st.conds)

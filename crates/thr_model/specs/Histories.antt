@@ -18,6 +18,7 @@ use Rattle.thr_model.specs.Events.{made_by}
 
 -- ---- stops
 
+-- The limit of the first `limit` line, or 100,000 where there is none (docs/script.md, "Lines").
 abbrev pub limit_in : List Item → ℕ
 limit_in [] = 100000
 limit_in (item.Limit n ∷ items) = n
@@ -31,6 +32,7 @@ limit_of s = limit_in s.items
 abbrev pub goes_on : State → Bool
 goes_on st = some_can_run st.rows || is_some (earliest st.conds)
 
+-- The stop `limit`, where there are at least as many lines as the limit (docs/machine.md, "Stops").
 abbrev pub limit_stop : Bool → Option Stop
 limit_stop true = Some stops.Limit
 limit_stop false = None
@@ -48,6 +50,7 @@ stop_at s st count = stop_with (live st.threads) (goes_on st) (nat_le (limit_of 
 
 -- ---- histories
 
+-- How many turns an event has: a turn one, and any other none (docs/machine.md, "Histories").
 abbrev pub turn_count : Event → ℕ
 turn_count (event.Dispatch p) = 0
 turn_count (event.Turn p) = 1
@@ -62,7 +65,7 @@ pub data History (s : Script) (n : ℕ) : State → List Event → List Entry �
       → stop_at s st (length entries) ≡ None → (e : Event) (made : Made) → made_by s n st e ≡ Some made
       → History s n made.state (e ∷ events) (entries ++ made.lines) (turns + turn_count e)
 
--- The stop is the one that holds, or want of memory where none does.
+-- The stop is the one that holds, or want of memory where none does (docs/machine.md, "Stops").
 abbrev pub StopsWith : Option Stop → Stop → Type 0
 StopsWith None stop = stop ≡ stops.Memory
 StopsWith (Some holds) stop = stop ≡ holds

@@ -1,4 +1,4 @@
--- Events of one's choice, played from the opening, so that a worked history computes.
+-- Events of one's choice, played from the opening, so that a worked history computes (docs/theorems.md, "Laws of the machine").
 use Rattle.std.specs.Prelude.{ℕ, zero, suc, ◌+◌, List, [], ◌∷◌, ◌++◌, length, Bool, true, false, is_none, is_some, unwrap_or, if◌then◌else◌, Option, None, Some}
 use Rattle.std.specs.Option.{option_and_then, option_map}
 use Rattle.thr_values.specs.declared.event.Event.{Event}
@@ -18,9 +18,11 @@ pub record Past : Type 0 where
   pub entries : List Entry
   pub turns : ℕ
 
+-- The past at the opening, without an event (docs/machine.md, "Histories").
 abbrev pub past_of : Script → Past
 past_of s = record { state = opening s; events = []; entries = []; turns = 0 }
 
+-- The past after one more event, which made this (docs/machine.md, "Histories").
 abbrev pub after_event : Past → Event → Made → Past
 after_event past e made = record {
   state = made.state;
@@ -44,6 +46,7 @@ past_by s n events = unwrap_or (play s n events (past_of s)) (past_of s)
 
 -- ---- one processor
 
+-- A turn where a thread runs on processor 0, else a dispatch where one can run, else the clock (docs/machine.md, "Events").
 abbrev pub event_where : Bool → Bool → Event
 event_where true can_go = event.Turn 0
 event_where false true = event.Dispatch 0
@@ -53,6 +56,7 @@ event_where false false = event.Clock
 abbrev pub only_event : State → Event
 only_event st = event_where (is_some (running st.rows 0)) (some_can_run st.rows)
 
+-- What comes of the past after one more event, or this past where that event isn't legal (docs/machine.md, "Histories").
 abbrev pub goes_further : (Past → Past) → Past → Option Past → Past
 goes_further further past None = past
 goes_further further past (Some after) = further after

@@ -30,6 +30,7 @@ pub record Run : Type 0 where
   pub lines : List What
   pub halt : Halt
 
+-- The quiet part is over here, with no line of its own, and this ends it (docs/machine.md, "Turns").
 abbrev pub halts : Remainder → Halt → Run
 halts r halt = record { to = r; lines = []; halt = halt }
 
@@ -37,6 +38,7 @@ halts r halt = record { to = r; lines = []; halt = halt }
 abbrev pub pauses : Remainder → Run
 pauses r = record { to = r; lines = what.Pause ∷ []; halt = Pauses }
 
+-- A quiet part with these lines before its own (docs/machine.md, "Turns").
 abbrev pub after_lines : List What → Run → Run
 after_lines lines run = record { to = run.to; lines = lines ++ run.lines; halt = run.halt }
 
@@ -53,6 +55,7 @@ abbrev pub goes_on : Bool → (Remainder → Run) → Move → Run
 goes_on true more m = after_lines m.lines (pauses m.to)
 goes_on false more m = after_lines m.lines (more m.to)
 
+-- A cancel that can be delivered, or else this quiet step and what comes after it (docs/machine.md, "Turns").
 abbrev pub quiet_or_delivers : Bool → Mode → (Remainder → Run) → Remainder → Move → Run
 quiet_or_delivers true mode more r m = halts r Delivers
 quiet_or_delivers false mode more r m = goes_on (is_asynchronous mode) more m

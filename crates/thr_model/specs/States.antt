@@ -56,6 +56,7 @@ remainder_of st t = at st.remainders t.0 nothing_left
 abbrev pub with_remainder : State → Tid → Remainder → State
 with_remainder st t r = record st { remainders = put st.remainders t.0 r }
 
+-- How many frames the stack of a thread with this record holds, 0 without a record (docs/machine.md, "Frames").
 abbrev pub frames_in : Option Thread → ℕ
 frames_in None = 0
 frames_in (Some th) = th.frames
@@ -78,6 +79,7 @@ debt_of st t = get st.debts t.0
 abbrev pub owes : Table Debt → Debt → Tid → Table Debt
 owes debts d t = put debts t.0 d
 
+-- What threads owe once this thread owes this, unless it owes something earlier (docs/machine.md, "Mutexes").
 abbrev pub owes_more : Table Debt → Option Debt → Debt → Tid → Table Debt
 owes_more debts None d t = put debts t.0 d
 owes_more debts (Some earlier) d t = debts

@@ -56,6 +56,7 @@ after_entries entries made = record { state = made.state; lines = entries ++ mad
 
 -- ---- calls
 
+-- One step after another: what is left after both, and the lines of both (docs/machine.md, "Turns").
 abbrev pub then_move : Move → Move → Move
 then_move m n = record { to = n.to; lines = m.lines ++ n.lines }
 
@@ -64,6 +65,7 @@ abbrev pub runs_routine : Setting → DceCall → Move → Move
 runs_routine g (dce.Once block routine) m = then_move m (begins_once g block routine m.to)
 runs_routine g _ m = m
 
+-- The caller of this call begins the routine of its once block, or doesn't (docs/machine.md, "Once blocks").
 abbrev pub runs_if : Bool → Setting → DceCall → Move → Move
 runs_if true g call m = runs_routine g call m
 runs_if false g call m = m
@@ -79,6 +81,7 @@ abbrev pub stores_of : Remainder → Reply → List (NameId × ℤ)
 stores_of r reply.Blocks = []
 stores_of r y = replies.writes r y
 
+-- The state with what the reply stores in shared variables (docs/machine.md, "Replies").
 abbrev pub with_stores : State → Remainder → Reply → State
 with_stores st r y = record st { shared = with_writes st.shared (stores_of r y) }
 
@@ -95,6 +98,7 @@ called s st t g call r (Err x) = moved st t (raised x r)
 
 -- ---- shared steps
 
+-- The state where a shared variable has this new value, or none has (docs/machine.md, "Shared statements").
 abbrev pub written_to : State → Option (NameId × ℤ) → State
 written_to st None = st
 written_to st (Some w) = record st { shared = with_writes st.shared (w ∷ []) }
@@ -113,6 +117,7 @@ abbrev pub handed_on : State → once.Undone → Option Tid → State
 handed_on st o None = record st { onces = o.onces; rows = o.rows }
 handed_on st o (Some t) = record st { onces = o.onces; rows = make_ready (rank_of st) o.rows t; debts = owes st.debts Running t }
 
+-- A once block is undone by the unwinding under way (docs/machine.md, "Once blocks").
 abbrev pub undoing_made : State → Tid → NameId → Move → Made
 undoing_made st t block m = let o : once.Undone = once.undone st.onces st.rows block in moved (handed_on st o o.runner) t m
 
@@ -144,6 +149,7 @@ end_made st t g r o None = record {
   lines = thread_line t (what.End r.value) ∷ [];
 }
 
+-- The end step of a thread, which asks for the next destructor (docs/machine.md, "Turns").
 abbrev pub ending_made : State → Tid → Setting → Remainder → Made
 ending_made st t g r = let o : NextDestructor = next_destructor st.onces t in end_made st t g r o o.call
 
@@ -158,6 +164,7 @@ abbrev pub begun_by : Setting → Act → Move → Move
 begun_by g (Asks call) m = runs_routine g call m
 begun_by g _ m = m
 
+-- The same of the call at this place, if one is next (docs/machine.md, "What threads owe").
 abbrev pub begun_at : Setting → Place → Move → Move
 begun_at g (At h) m = begun_by g (act_at h) m
 begun_at g _ m = m
@@ -179,6 +186,7 @@ halt_made s st t g r (Completes block m) = completion_made st t block m
 halt_made s st t g r Ends = ending_made st t g r
 halt_made s st t g r Pauses = moved st t (still r)
 
+-- The lines of the quiet part, and then what ends it is made (docs/machine.md, "Turns").
 abbrev pub run_made : Script → State → Tid → Setting → Run → Made
 run_made s st t g run = after_entries (map (thread_line t) run.lines) (halt_made s st t g run.to run.halt)
 
@@ -188,10 +196,12 @@ turn_by s st t (Some d) = debt_made (record st { debts = cut st.debts t.0 }) t (
 turn_by s st t None =
     run_made s st t (setting_of s st t) (run_of most_steps (setting_of s st t) (mode_at st.threads t) (remainder_of st t))
 
+-- The policy is SCHED_FIFO (docs/machine.md, "Dispatch and slices").
 abbrev pub is_fifo : Policy → Bool
 is_fifo policy.Fifo = true
 is_fifo _ = false
 
+-- The policy in this record is SCHED_FIFO (docs/machine.md, "Dispatch and slices").
 abbrev pub is_fifo_in : Option Thread → Bool
 is_fifo_in None = false
 is_fifo_in (Some th) = is_fifo th.policy

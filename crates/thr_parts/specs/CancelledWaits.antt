@@ -12,7 +12,7 @@ use Rattle.thr_parts.specs.Waking as waking
 use Rattle.thr_parts.specs.Pipes.{Pipes}
 use Rattle.thr_parts.specs.Closing as closing
 
--- What there is after a cancel has woken a thread, and whether it got its mutex at once.
+-- What there is after a cancel has woken a thread, and whether it got its mutex at once (docs/machine.md, "Cancels").
 pub record Cancelled : Type 0 where
   pub conds : Conds
   pub pipes : Pipes

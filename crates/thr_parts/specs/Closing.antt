@@ -15,7 +15,7 @@ use Rattle.thr_parts.specs.Pipes.{Pipe, Pipes, pipe_at, writing_without}
 
 -- ---- close
 
--- A reply, and pipes after it.
+-- A reply, and pipes after it (docs/machine.md, "Pipes").
 pub record PipesReply : Type 0 where
   pub reply : Reply
   pub pipes : Pipes
@@ -44,7 +44,7 @@ close ps p =
       };
     }
 
--- The same with rows after it, and the readers and the writers that became ready.
+-- The same with rows after it, and the readers and the writers that became ready (docs/machine.md, "Pipes").
 pub record Closed : Type 0 where
   pub reply : Reply
   pub pipes : Pipes
@@ -77,7 +77,7 @@ close_out rank ps rs p =
 
 -- ---- a waiter that leaves
 
--- Pipes and rows after a thread was to leave its wait, and whether it had one.
+-- Pipes and rows after a thread was to leave its wait, and whether it had one (docs/machine.md, "Waits that end").
 pub record LeftPipe : Type 0 where
   pub pipes : Pipes
   pub rows : Rows

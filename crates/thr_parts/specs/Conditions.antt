@@ -26,7 +26,7 @@ pub record Conds : Type 0 where
 abbrev pub no_conds : Conds
 no_conds = record { made = none; waits = none }
 
--- A reply, and the conditions after it.
+-- A reply, and the conditions after it (docs/machine.md, "Conditions").
 pub record CondsReply : Type 0 where
   pub reply : Reply
   pub conds : Conds
@@ -98,7 +98,8 @@ cond_destroy cs c =
 
 -- ---- waits that begin
 
--- A reply, conditions, locks and rows after it, and the thread that has the mutex now, taken out of its row.
+-- A reply, conditions, locks and rows after it, and the thread that has the mutex now, taken out of its row (docs/machine.md,
+-- "Conditions").
 pub record Waited : Type 0 where
   pub reply : Reply
   pub conds : Conds
@@ -151,7 +152,7 @@ abbrev pub timedwait : Conds → Locks → Rows → NameId → NameId → ℤ �
 timedwait cs ls rs c m until now t rank =
     begin_wait cs ls rs c m (Some until) t rank (timedwait_reply (wait_reply cs ls c m t) (int_le until now))
 
--- A reply, and conditions and rows after it.
+-- A reply, and conditions and rows after it (docs/machine.md, "Times").
 pub record Delayed : Type 0 where
   pub reply : Reply
   pub conds : Conds

@@ -39,7 +39,7 @@ some_can_run rs = list_any (λ e. can_run e.1.place) rs.seats
 
 -- ---- dispatch
 
--- The rows after a processor was to take a thread, and the thread that it took.
+-- The rows after a processor was to take a thread, and the thread that it took (docs/machine.md, "Dispatch and slices").
 pub record Dispatched : Type 0 where
   pub rows : Rows
   pub taken : Option Tid
@@ -102,7 +102,7 @@ as_kept rs fifo s = record {
   place = if gives_way rs fifo s.rank s.place then Stands row.Ready rs.next_arrival else a_turn_later fifo s.place;
 }
 
--- The rows after a running thread's turn, and whether it still runs.
+-- The rows after a running thread's turn, and whether it still runs (docs/machine.md, "Dispatch and slices").
 pub record Kept : Type 0 where
   pub rows : Rows
   pub stays : Bool

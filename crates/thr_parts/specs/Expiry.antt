@@ -45,7 +45,7 @@ abbrev pub due_first : Conds → Rows → ℤ → List Tid
 due_first cs rs now = numbers_of (in_order (due cs rs now))
 
 -- Conditions and rows after the best thread whose time has come was to leave its wait, and that thread with its mutex, if it
--- waited on a condition.
+-- waited on a condition (docs/machine.md, "Times").
 pub record Expired : Type 0 where
   pub conds : Conds
   pub rows : Rows

@@ -23,7 +23,7 @@ pub record Onces : Type 0 where
 abbrev pub no_onces : Onces
 no_onces = record { blocks = none; keys = none }
 
--- A reply, and once blocks and keys after it.
+-- A reply, and once blocks and keys after it (docs/machine.md, "Keys").
 pub record OncesReply : Type 0 where
   pub reply : Reply
   pub onces : Onces
@@ -103,7 +103,7 @@ abbrev pub keys_called : Table Key → Tid → Option DestructorCall → Table K
 keys_called keys t None = keys
 keys_called keys t (Some c) = put_if keys c.0.0 (option_map (as_valued t (pos 0)) (get keys c.0.0))
 
--- Once blocks and keys after an ending thread was to call a destructor, and the call.
+-- Once blocks and keys after an ending thread was to call a destructor, and the call (docs/machine.md, "Keys").
 pub record NextDestructor : Type 0 where
   pub onces : Onces
   pub call : Option DestructorCall

@@ -47,7 +47,7 @@ taken (Some h) t = record { owner = t; depth = h.depth + 1 }
 abbrev pub as_taken : Tid → Mutex → Mutex
 as_taken t x = record { kind = x.kind; held = Some (taken x.held t) }
 
--- A reply, and locks and rows after it.
+-- A reply, and locks and rows after it (docs/machine.md, "Mutexes").
 pub record Locked : Type 0 where
   pub reply : Reply
   pub locks : Locks
@@ -113,7 +113,7 @@ held_after next h = if is_last h then option_map owned_by next else option_map o
 abbrev pub as_unlocked : Option Tid → Mutex → Mutex
 as_unlocked next x = record { kind = x.kind; held = held_after next x.held }
 
--- The same, with the thread that has the mutex now, taken out of its row.
+-- The same, with the thread that has the mutex now, taken out of its row (docs/machine.md, "Mutexes").
 pub record Unlocked : Type 0 where
   pub reply : Reply
   pub locks : Locks
@@ -134,7 +134,8 @@ unlock ls rs m t =
 
 -- ---- a thread that left a condition
 
--- The locks and rows after a thread was to get its mutex back, and whether it got it at once.
+-- The locks and rows after a thread was to get its mutex back, and whether it got it at once (docs/machine.md, "Waits that
+-- end").
 pub record Regained : Type 0 where
   pub locks : Locks
   pub rows : Rows

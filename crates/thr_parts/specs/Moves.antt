@@ -18,7 +18,7 @@ put_in_row rs r t rank = record {
   next_arrival = rs.next_arrival + 1;
 }
 
--- The rows after a thread was to leave its row, and whether it stood in one.
+-- The rows after a thread was to leave its row, and whether it stood in one (docs/machine.md, "Rows").
 pub record LeftRow : Type 0 where
   pub rows : Rows
   pub stood : Bool
@@ -76,7 +76,7 @@ unfoldable pub make_all_ready : (Tid → ℕ) → Rows → List Tid → Rows
 make_all_ready rank rs [] = rs
 make_all_ready rank rs (t ∷ ts) = make_all_ready rank (make_ready rank (take_out rs t).rows t) ts
 
--- The rows after all threads of a row became ready, and these threads in their order.
+-- The rows after all threads of a row became ready, and these threads in their order (docs/machine.md, "Waits that end").
 pub record Freed : Type 0 where
   pub rows : Rows
   pub woken : List Tid

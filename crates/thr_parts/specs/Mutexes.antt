@@ -25,7 +25,7 @@ pub record Locks : Type 0 where
 abbrev pub no_locks : Locks
 no_locks = record { kinds = none; mutexes = none; global = None }
 
--- A reply, and the locks after it.
+-- A reply, and the locks after it (docs/machine.md, "Mutexes").
 pub record LocksReply : Type 0 where
   pub reply : Reply
   pub locks : Locks

@@ -17,7 +17,7 @@ use Rattle.thr_parts.specs.Moves.{block_if, take_out_if}
 abbrev pub with_blocks : Onces → Table OnceBlock → Onces
 with_blocks os blocks = record { blocks = blocks; keys = os.keys }
 
--- A reply, once blocks and rows after it, and whether the caller is to run the routine.
+-- A reply, once blocks and rows after it, and whether the caller is to run the routine (docs/machine.md, "Once blocks").
 pub record Entered : Type 0 where
   pub reply : Reply
   pub onces : Onces
@@ -49,7 +49,8 @@ abbrev pub blocks_undone : Table OnceBlock → NameId → Option Tid → Table O
 blocks_undone blocks o None = cut blocks o.0
 blocks_undone blocks o (Some t) = put blocks o.0 (block.Running t)
 
--- Once blocks and rows after a routine was unwound, and the thread that holds the block now, taken out of its row.
+-- Once blocks and rows after a routine was unwound, and the thread that holds the block now, taken out of its row
+-- (docs/machine.md, "Once blocks").
 pub record Undone : Type 0 where
   pub onces : Onces
   pub rows : Rows

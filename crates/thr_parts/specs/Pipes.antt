@@ -80,7 +80,7 @@ writing_without writing (Some t) = cut writing t.0
 
 -- ---- read
 
--- A reply, pipes and rows after it, and the writer whose item entered, taken out of its row.
+-- A reply, pipes and rows after it, and the writer whose item entered, taken out of its row (docs/machine.md, "Pipes").
 pub record ReadReply : Type 0 where
   pub reply : Reply
   pub pipes : Pipes
@@ -115,7 +115,7 @@ read ps rs p t rank =
 
 -- ---- write
 
--- A reply, pipes and rows after it, and the reader that was given the item, taken out of its row.
+-- A reply, pipes and rows after it, and the reader that was given the item, taken out of its row (docs/machine.md, "Pipes").
 pub record WriteReply : Type 0 where
   pub reply : Reply
   pub pipes : Pipes

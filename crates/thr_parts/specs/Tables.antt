@@ -1,5 +1,5 @@
 -- Tables from numbers to what stands at them (docs/machine.md, "Tables").
-use Rattle.std.specs.Prelude.{◌≡◌, ℕ, ◌+◌, Bool, true, false, not, ◌==◌, is_some, unwrap_or, List, [], ◌∷◌, map, Option, Some, None}
+use Rattle.std.specs.Prelude.{◌≡◌, ℕ, ◌+◌, Bool, true, false, not, ◌==◌, is_some, unwrap_or, List, [], ◌∷◌, Option, Some, None}
 use Rattle.std.specs.Ordering.{nat_cmp}
 use Rattle.std.specs.FinMap.Entries as entries
 
@@ -45,10 +45,6 @@ cut_if false m k = m
 abbrev pub keep_if : {A : Type 0} → Bool → Option A → Option A
 keep_if true o = o
 keep_if false o = None
-
--- The numbers at which something stands, in their order.
-unfoldable pub names : {A : Type 0} → Table A → List ℕ
-names m = map (λ e. e.0) m
 
 -- The table of the items that are there, at n, n + 1 and so on.
 unfoldable pub present : {A : Type 0} → ℕ → List (Option A) → Table A

@@ -23,7 +23,7 @@ pub record Threads : Type 0 where
   pub next : ℕ
   pub attrs : Table Attr
 
--- A reply, and records and cells after it.
+-- A reply, and records and cells after it (docs/machine.md, "Thread records").
 pub record ThreadsReply : Type 0 where
   pub reply : Reply
   pub threads : Threads

@@ -30,7 +30,7 @@ abbrev pub some_if : Bool → Tid → Option Tid
 some_if b t = keep_if b (Some t)
 
 -- Conditions and rows after a thread was to leave its wait. Where it had one, the mutex is told with which it waited on a
--- condition.
+-- condition (docs/machine.md, "Waits that end").
 pub record LeftWait : Type 0 where
   pub conds : Conds
   pub rows : Rows
@@ -65,7 +65,8 @@ thread_in o = option_map (λ p. p.0) o
 abbrev pub next_waiter : Conds → Rows → NameId → Option (Tid × NameId)
 next_waiter cs rs c = option_and_then (beside_mutex cs) (best rs (row.Cond c))
 
--- Conditions and rows after the best waiter was to leave a condition, and that waiter with its mutex.
+-- Conditions and rows after the best waiter was to leave a condition, and that waiter with its mutex (docs/machine.md, "Waits
+-- that end").
 pub record TakenNext : Type 0 where
   pub conds : Conds
   pub rows : Rows
@@ -80,7 +81,7 @@ take_next cs rs c =
       waiter = next;
     }
 
--- The same with a reply.
+-- The same with a reply (docs/machine.md, "Waits that end").
 pub record Signalled : Type 0 where
   pub reply : Reply
   pub conds : Conds
@@ -100,7 +101,7 @@ signal cs rs c =
 -- ---- several threads leave their waits
 
 -- Conditions, locks and rows after threads have left their waits; these threads in their order, each with its mutex if it
--- waited on a condition; and those that got their mutex at once, in the same order.
+-- waited on a condition; and those that got their mutex at once, in the same order (docs/machine.md, "Waits that end").
 pub record Woken : Type 0 where
   pub conds : Conds
   pub locks : Locks
@@ -144,7 +145,7 @@ wake_then rank cs ls rs t others =
     let o : Regained = resume rank ls left.rows t (mutex_with cs t) in
     woken_first t (mutex_with cs t) o.gets (wake_all rank left.conds o.locks o.rows (others left.conds o.rows))
 
--- A reply, and what was woken.
+-- A reply, and what was woken (docs/machine.md, "Waits that end").
 pub record Notified : Type 0 where
   pub reply : Reply
   pub woken : Woken

@@ -40,12 +40,14 @@ abbrev pub name_part : Option NameId → Part
 name_part (Some name) = Name name
 name_part None = Word 0
 
+-- The place of a policy among the words that may stand there (docs/script.md, "Calls").
 abbrev pub policy_place : Policy → ℕ
 policy_place Fifo = 0
 policy_place Rr = 1
 policy_place Fg = 2
 policy_place Bg = 3
 
+-- The place of a mutex kind among the words that may stand there (docs/script.md, "Calls").
 abbrev pub kind_place : Kind → ℕ
 kind_place Fast = 0
 kind_place Recursive = 1
@@ -56,10 +58,12 @@ abbrev pub first_place : Bool → ℕ
 first_place true = 0
 first_place false = 1
 
+-- A call's word, and what stands at its places, the variables that take values apart (docs/journal.md, "Calls").
 pub record Shape : Type 0 where
   pub word : CallWord
   pub parts : List Part
 
+-- The call of this word with this at its places (docs/journal.md, "Calls").
 abbrev pub shape : CallWord → List Part → Shape
 shape word parts = record { word = word; parts = parts }
 
@@ -109,6 +113,7 @@ shape_of (dce.Read n v w) = shape word.Read (Name n ∷ [])
 shape_of (dce.Write n e) = shape word.Write (Name n ∷ Value e ∷ [])
 shape_of (dce.Close n) = shape word.Close (Name n ∷ [])
 
+-- The expressions at these places, in their order (docs/script.md, "Calls").
 abbrev pub expressions_in : List Part → List Expr
 expressions_in [] = []
 expressions_in (Value e ∷ parts) = e ∷ expressions_in parts
@@ -138,11 +143,13 @@ abbrev pub taken : Var → Reply → List (Var × ℤ)
 taken v (reply.Value n) = (v, n) ∷ []
 taken v _ = []
 
+-- What `read` stores: the item and 1, or 0 in both variables at the end of a pipe (docs/machine.md, "Calls").
 abbrev pub taken_by_read : Var → Var → Reply → List (Var × ℤ)
 taken_by_read v w (reply.Value n) = (v, n) ∷ (w, pos 1) ∷ []
 taken_by_read v w reply.Eof = (v, pos 0) ∷ (w, pos 0) ∷ []
 taken_by_read v w _ = []
 
+-- What a call stores of its reply: the variables with their values, in this order (docs/machine.md, "Replies").
 unfoldable pub stores : DceCall → Reply → List (Var × ℤ)
 stores (dce.Create v attr n e) r = taken v r
 stores (dce.Join e v) r = taken v r

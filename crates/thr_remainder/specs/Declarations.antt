@@ -13,11 +13,13 @@ use Rattle.thr_syntax.specs.declared.tree.Script.{Script}
 use Rattle.thr_syntax.specs.Lines.{item_lines}
 use Rattle.thr_remainder.specs.Places.{Left, body_at, nothing}
 
+-- The two are the same name (docs/script.md, "Names").
 abbrev pub is_same_name : NameId → NameId → Bool
 is_same_name a b = a.0 == b.0
 
 -- ---- the interface
 
+-- The interface of the first `interface` line, or `exc` where there is none (docs/script.md, "Lines").
 abbrev pub interface_in : List Item → Interface
 interface_in [] = interface.Exc
 interface_in (item.Interface i ∷ items) = i
@@ -29,6 +31,7 @@ interface_of s = interface_in s.items
 
 -- ---- exceptions
 
+-- The exception that a name is declared as, if it is declared as one (docs/script.md, "Lines").
 abbrev pub exception_in : List Item → NameId → Option Exc
 exception_in [] x = None
 exception_in (item.Exception name ∷ items) x = if is_same_name name x then Some (Address x) else exception_in items x
@@ -56,6 +59,7 @@ pub record Entry : Type 0 where
 abbrev pub entry_at : ℕ → Routine → Entry
 entry_at line r = record { line = line; locals = length r.locals; body = body_at (line + length r.locals) r.body }
 
+-- The routine of this name, if this declaration is the routine (docs/script.md, "Lines").
 abbrev pub entry_here : ℕ → Item → NameId → Option Entry
 entry_here line (item.Routine r) name = if is_same_name r.name name then Some (entry_at line r) else None
 entry_here line _ name = None
@@ -70,6 +74,7 @@ entry_in line (i ∷ items) name = option_or (entry_here line i name) (entry_in 
 unfoldable pub routine_of : Script → NameId → Option Entry
 routine_of s name = entry_in 2 s.items name
 
+-- An empty routine at no line, as it stands for a name that no routine has.
 abbrev pub no_entry : Entry
 no_entry = record { line = 0; locals = 0; body = nothing 0 }
 

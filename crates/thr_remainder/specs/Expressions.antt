@@ -28,6 +28,7 @@ Value = Result ℤ Exc
 abbrev pub is_true : ℤ → Bool
 is_true n = not (int_eq n (pos 0))
 
+-- The value of a comparison and of `and`, `or` and `not`: 1 where it holds, else 0 (docs/script.md, "Expressions").
 abbrev pub truth : Bool → ℤ
 truth true = pos 1
 truth false = pos 0
@@ -68,6 +69,7 @@ two_values o (Err x) b = Err x
 two_values o (Ok m) (Err y) = Err y
 two_values o (Ok m) (Ok n) = applied o m n
 
+-- The value of `not`, or the fault of its operand (docs/script.md, "Expressions").
 abbrev pub opposite : Value → Value
 opposite (Ok n) = Ok (truth (not (is_true n)))
 opposite (Err x) = Err x
@@ -86,6 +88,7 @@ abbrev pub status_of : Exc → ℤ
 status_of (Status n) = n
 status_of (Address a) = negsuc 0
 
+-- The exception that a name stands for, or that `this` means (docs/script.md, "Expressions").
 abbrev pub exception_at : Setting → Remainder → ExcRef → Exc
 exception_at g r (Named name) = exception_value g.script name
 exception_at g r This = caught_in r.items
@@ -100,6 +103,7 @@ SharedValues = NameId → ℤ
 abbrev pub none_shared : SharedValues
 none_shared name = pos 0
 
+-- The value of a local of the innermost call, or of a shared variable (docs/script.md, "Expressions").
 abbrev pub variable_value : SharedValues → Remainder → Var → ℤ
 variable_value shared r (Local p) = unwrap_or (slice_get (locals_in r.items) p) (pos 0)
 variable_value shared r (Shared name) = shared name

@@ -40,6 +40,7 @@ pub data Meeting : Type 0 where
   -- the item is dropped, and the unwinding is lost
   Loses : (line : What) → Meeting
 
+-- The clause that catches begins its body; where none does, the try is dropped (docs/machine.md, "Unwindings").
 abbrev pub caught_by : ℕ → ℕ → Exc → Option Handler → Meeting
 caught_by scope n x None = Drops
 caught_by scope n x (Some c) = Begins (Catching scope x) c.body (what.Catch scope n (at c.line))

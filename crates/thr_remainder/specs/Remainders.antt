@@ -68,15 +68,18 @@ pub data Place : Type 0 where
   AtEnd : (close : ℕ) (role : Role) (outer : List Item) → Place
   At : (spot : Spot) → Place
 
+-- The first statement that is left of an item, or its end where none is left (docs/machine.md, "The next step").
 abbrev pub place_inside : List Placed → ℕ → Role → List Item → Place
 place_inside [] close role outer = AtEnd close role outer
 place_inside (p ∷ todo) close role outer =
     At (record { line = p.line; stmt = p.stmt; rest = record { todo = todo; close = close }; role = role; outer = outer })
 
+-- What is next where these items are left, the innermost first (docs/machine.md, "The next step").
 abbrev pub place_in : List Item → Place
 place_in [] = Nowhere
 place_in (i ∷ outer) = place_inside i.inside.todo i.inside.close i.role outer
 
+-- What the statement that is next does first (docs/machine.md, "Statements").
 abbrev pub act_at : Spot → Act
 act_at h = act_of h.line h.stmt h.rest
 
@@ -90,6 +93,7 @@ passed h = goes_on h h.rest
 
 -- ---- locals, and what was caught
 
+-- The locals of an item that is a call, or else those outside it (docs/machine.md, "Routines").
 abbrev pub locals_or : Role → List ℤ → List ℤ
 locals_or (Calling locals place) outer = locals
 locals_or _ outer = outer
@@ -99,10 +103,12 @@ abbrev pub locals_in : List Item → List ℤ
 locals_in [] = []
 locals_in (i ∷ items) = locals_or i.role (locals_in items)
 
+-- The item is a call (docs/machine.md, "What is left to do").
 abbrev pub is_call : Role → Bool
 is_call (Calling locals place) = true
 is_call _ = false
 
+-- The item where this local has this value, if it is a call (docs/machine.md, "Routines").
 abbrev pub role_with : ℕ → ℤ → Role → Role
 role_with p n (Calling locals place) = Calling (slice_set locals p n) place
 role_with p n role = role
@@ -112,6 +118,7 @@ abbrev pub with_local : ℕ → ℤ → List Item → List Item
 with_local p n [] = []
 with_local p n (i ∷ items) = record { role = role_with p n i.role; inside = i.inside } ∷ (if is_call i.role then items else with_local p n items)
 
+-- What a catch body has caught, or else what was caught outside; a call asks no further (docs/machine.md, "Handlers").
 abbrev pub caught_or : Role → Exc → Exc
 caught_or (Calling locals place) outer = cancel_e
 caught_or (Catching scope caught) outer = caught
@@ -129,5 +136,6 @@ caught_in (i ∷ items) = caught_or i.role (caught_in items)
 abbrev pub free : Setting → Remainder → ℕ
 free g r = g.size - length r.items
 
+-- So many frames more fit the stack (docs/machine.md, "Frames").
 abbrev pub has_room : Setting → Remainder → ℕ → Bool
 has_room g r n = nat_le n (free g r)

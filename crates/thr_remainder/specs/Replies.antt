@@ -22,9 +22,11 @@ use Rattle.thr_remainder.specs.Calls.{expressions_of, stores}
 
 -- ---- before the reply
 
+-- The values of a call's expressions, or the exception that is raised in its place (docs/machine.md, "Calls").
 abbrev pub Values : Type 0
 Values = Result (List ℤ) Exc
 
+-- A value before others, or the first fault from the left (docs/machine.md, "Calls").
 abbrev pub value_then : Value → Values → Values
 value_then (Err x) ns = Err x
 value_then (Ok n) (Err x) = Err x
@@ -35,6 +37,7 @@ abbrev pub values_of : Setting → SharedValues → Remainder → List Expr → 
 values_of g shared r [] = Ok []
 values_of g shared r (e ∷ es) = value_then (value_of g shared r e) (values_of g shared r es)
 
+-- The call is `pthread_once` (docs/machine.md, "Frames").
 abbrev pub needs_two_frames : DceCall → Bool
 needs_two_frames (dce.Once block routine) = true
 needs_two_frames _ = false
@@ -48,14 +51,17 @@ asked g shared call r =
 
 -- ---- the reply
 
+-- The call is `pthread_cond_timedwait` (docs/machine.md, "Errors").
 abbrev pub is_timed_wait : DceCall → Bool
 is_timed_wait (dce.CondTimedwait c m e) = true
 is_timed_wait _ = false
 
+-- The reply is EAGAIN (docs/machine.md, "Errors").
 abbrev pub is_eagain : Reply → Bool
 is_eagain reply.Eagain = true
 is_eagain _ = false
 
+-- The exception of an error in the interface `exc`; the interface `status` raises none (docs/machine.md, "Errors").
 abbrev pub raised_in : Interface → Reply → Option Exc
 raised_in interface.Exc r = error_exc_of r
 raised_in interface.Status r = None
@@ -77,15 +83,18 @@ shared_in [] = []
 shared_in ((Local p, n) ∷ stores) = shared_in stores
 shared_in ((Shared name, n) ∷ stores) = (name, n) ∷ shared_in stores
 
+-- This exception is raised, or nothing changes (docs/machine.md, "Errors").
 abbrev pub raised_if : Option Exc → Remainder → Move
 raised_if None r = still r
 raised_if (Some x) r = raised x r
 
+-- What is left after this statement, which is a call, has its reply (docs/machine.md, "Replies").
 abbrev pub replied_by : Setting → Act → Spot → Remainder → Reply → Move
 replied_by g (Asks call) h r reply =
     raised_if (raised_by (interface_of g.script) call reply) (record r { items = stored_in (stores call reply) (passed h); err = errno_of reply })
 replied_by g _ h r reply = still r
 
+-- The same of the statement at this place, if one is next (docs/machine.md, "Replies").
 abbrev pub replied_at : Setting → Place → Remainder → Reply → Move
 replied_at g (At h) r reply = replied_by g (act_at h) h r reply
 replied_at g _ r reply = still r
@@ -95,10 +104,12 @@ replied_at g _ r reply = still r
 unfoldable pub replied : Setting → Reply → Remainder → Move
 replied g reply r = replied_at g (place_in r.items) r reply
 
+-- The shared variables that the reply of this call writes, with their values (docs/machine.md, "Replies").
 abbrev pub writes_by : Act → Reply → List (NameId × ℤ)
 writes_by (Asks call) reply = shared_in (stores call reply)
 writes_by _ reply = []
 
+-- The same of the statement at this place, if one is next (docs/machine.md, "Replies").
 abbrev pub writes_at : Place → Reply → List (NameId × ℤ)
 writes_at (At h) reply = writes_by (act_at h) reply
 writes_at _ reply = []

@@ -11,6 +11,7 @@ scope_of (Finishing scope pending) = Some scope
 scope_of (Doing scope block routine) = Some scope
 scope_of (Barrier scope key routine) = Some scope
 
+-- A scope, if one is there, has a number below this one (docs/machine.md, "Handlers").
 abbrev pub IsBelow : ℕ → Option ℕ → Type 0
 IsBelow n None = ⊤
 IsBelow n (Some scope) = scope < n

@@ -43,6 +43,7 @@ abbrev pub AreHandlers : List Form → List Handler → Type 0
 AreHandlers text [] = Unit {0}
 AreHandlers text (h ∷ handlers) = StandAt text h.line (clause_form h.names ∷ []) × IsLeft text h.body × AreHandlers text handlers
 
+-- The catch clauses of a try, or its FINALLY body, stand at their lines (docs/machine.md, "What is left to do").
 abbrev pub AreWays : List Form → Ways → Type 0
 AreWays text (Catches handlers) = AreHandlers text handlers
 AreWays text (Finally body) = IsLeft text body

@@ -42,6 +42,7 @@ raised_again x = sets_out (Raised x) (λ n. what.Reraise n x)
 abbrev pub exited : ℤ → Remainder → Move
 exited v = sets_out (Exit v) (λ n. what.Exit n v)
 
+-- The line of a place, if anything is next (docs/machine.md, "The next step").
 abbrev pub line_in : Place → Option ℕ
 line_in Nowhere = None
 line_in (AtEnd close role outer) = Some close

@@ -32,6 +32,7 @@ place_for _ = None
 
 -- ---- statements, given the value of their expression
 
+-- The items where a variable is set: a shared one stands in none of them (docs/machine.md, "Quiet steps").
 abbrev pub variable_set : Var → ℤ → List Item → List Item
 variable_set (Local p) n items = with_local p n items
 variable_set (Shared name) n items = items
@@ -45,6 +46,7 @@ items_after g (Calls routine e place) n h = calling (entry_of g.script routine) 
 items_after g (Returns e) n h = stored (place_for h.role) n h.outer
 items_after g _ n h = passed h
 
+-- The kept value after a statement: `return` of the outermost call sets it (docs/machine.md, "Routines").
 abbrev pub kept_after : Act → ℤ → List Item → ℤ → ℤ
 kept_after (Returns e) n outer v = kept outer n v
 kept_after _ n outer v = v
@@ -93,10 +95,12 @@ made g tells shared (Asks call) h r = still r
 
 -- ---- ends
 
+-- The items after a try whose body ended by itself: it is left, or its FINALLY body begins (docs/machine.md, "Handlers").
 abbrev pub items_tried : ℕ → Ways → List Item → List Item
 items_tried scope (Catches handlers) outer = outer
 items_tried scope (Finally body) outer = record { role = Finishing scope None; inside = body } ∷ outer
 
+-- The line of a try whose body ended by itself (docs/journal.md, "The lines").
 abbrev pub line_tried : ℕ → Ways → What
 line_tried scope (Catches handlers) = what.Endtry scope
 line_tried scope (Finally body) = what.Finally scope 0
@@ -118,6 +122,7 @@ ended (Barrier scope key routine) outer r = leaves outer (what.Enddes scope) r
 
 -- ---- steps
 
+-- The step at this place: an item's end, or a statement that is no call (docs/machine.md, "The next step").
 abbrev pub step_at : Setting → (tells : Bool) → SharedValues → Place → Remainder → Move
 step_at g tells shared Nowhere r = still r
 step_at g tells shared (AtEnd close role outer) r = ended role outer r
@@ -132,26 +137,20 @@ quiet g r = step_at g false none_shared (place_in r.items) r
 unfoldable pub shared_step : Setting → SharedValues → Remainder → Move
 shared_step g shared r = step_at g true shared (place_in r.items) r
 
-abbrev pub valued_at : Setting → Place → Remainder → ℤ → Move
-valued_at g (At h) r n = valued g true (act_at h) h r n
-valued_at g _ r n = still r
-
--- The same where a frame fits, if the statement needs one, and its expression has this value (docs/machine.md, "Shared
--- statements").
-unfoldable pub shared_with : Setting → Remainder → ℤ → Move
-shared_with g r n = valued_at g (place_in r.items) r n
-
 -- ---- shared variables
 
+-- A shared variable with its new value, where the variable is shared and the expression has no fault.
 abbrev pub write_with : Var → Value → Option (NameId × ℤ)
 write_with (Shared name) (Ok n) = Some (name, n)
 write_with (Shared name) (Err x) = None
 write_with (Local p) value = None
 
+-- The shared variable that this statement writes, with its new value (docs/machine.md, "Shared statements").
 abbrev pub write_by : Setting → SharedValues → Act → Remainder → Option (NameId × ℤ)
 write_by g shared (Sets v e) r = write_with v (value_of g shared r e)
 write_by g shared _ r = None
 
+-- The same of the statement at this place, if one is next (docs/machine.md, "Shared statements").
 abbrev pub write_at : Setting → SharedValues → Place → Remainder → Option (NameId × ℤ)
 write_at g shared (At h) r = write_by g shared (act_at h) r
 write_at g shared _ r = None
