@@ -1,5 +1,7 @@
 pub mod Plays
+pub mod ArrivalsKept
 pub mod RowsKept
+pub mod Arrivals
 pub mod PartTables
 pub mod StateTables
 pub mod ScopeOrder

@@ -1,4 +1,5 @@
--- What the seats keep in every history: a fact about them that stays whatever becomes of a thread stays at each event.
+-- What the rows keep in every history: a fact about the seats and the next arrival that stays whatever becomes of a thread
+-- stays at each event.
 use Rattle.std.proofs.Common.{◌≡◌, ℕ, ℤ, Bool, true, false, List, Option, Some, None, Ok, Err, refl, ap, subst}
 use Rattle.std.specs.Prelude.{if◌then◌else◌, nat_lt}
 use Rattle.std.specs.Option.{option_map, unwrap_or}
@@ -18,13 +19,12 @@ use Rattle.thr_remainder.specs.Remainders.{Setting, Remainder, act_at}
 use Rattle.thr_remainder.specs.Steps.{written}
 use Rattle.thr_remainder.specs.Replies.{Values, asked}
 use Rattle.thr_parts.specs.declared.row.RowId.TheVariants as row
-use Rattle.thr_parts.specs.declared.row.Place.TheVariants.{Runs}
 use Rattle.thr_parts.specs.declared.row.Seat.{Seat}
-use Rattle.thr_parts.specs.Tables.{Table, none, put, IsCanonical}
+use Rattle.thr_parts.specs.Tables.{Table, none, IsCanonical}
 use Rattle.thr_parts.specs.Replies.{is_value, is_blocks}
 use Rattle.thr_parts.specs.Rows.{Rows, thread}
 use Rattle.thr_parts.specs.Moves.{free_row}
-use Rattle.thr_parts.specs.Dispatch.{whole_slice, running, some_can_run, dispatch}
+use Rattle.thr_parts.specs.Dispatch.{running, some_can_run, dispatch}
 use Rattle.thr_parts.specs.Threads as threads
 use Rattle.thr_parts.specs.Threads.{Threads, ThreadsReply, natural, rank_at, record_at}
 use Rattle.thr_parts.specs.Cancels.{waits_at_point}
@@ -37,7 +37,7 @@ use Rattle.thr_parts.specs.Expiry.{earliest, due_first}
 use Rattle.thr_parts.specs.Keys.{DestructorCall, NextDestructor, next_destructor}
 use Rattle.thr_parts.specs.OnceBlocks as once
 use Rattle.thr_parts.specs.Pipes.{read, write}
-use Rattle.thr_parts.proofs.KeptLaws.{IsKept, kept_put_in_row, kept_block_in, kept_block_if, kept_leave, kept_set_rank, kept_keeps, kept_free_row, kept_lock, kept_unlock, kept_regain, kept_wait, kept_timedwait, kept_delay, kept_signal, kept_wake_all, kept_enter, kept_undone, kept_read, kept_write, kept_close_out, kept_cancel_wait, kept_dispatch, canonical_is_kept, IsSeatBelow, AreBelow, below_is_kept}
+use Rattle.thr_parts.proofs.KeptLaws.{canonical_is_kept, IsSeatBelow, AreBelow, below_is_kept}
 use Rattle.thr_parts.proofs.EachLaws.{each_none, each_put}
 use Rattle.thr_parts.proofs.TableLaws.{canonical_none, canonical_put}
 use Rattle.thr_model.specs.States.{State, Debt, Return, Delivery, Running, rank_of, remainder_of, setting_of, debt_of, shared_values}
@@ -46,19 +46,20 @@ use Rattle.thr_model.specs.Runs.{Halt, Delivers, Shares, Undoes, Completes, Ends
 use Rattle.thr_model.specs.Turns.{Made, called, written_to, shared_made, handed_on, end_made, debt_made, halt_made, turn_by, kept, is_fifo_in, turn_of}
 use Rattle.thr_model.specs.Events.{dispatch_made, clock_to, clock_of, made_by}
 use Rattle.thr_model.specs.Histories.{History, opened, then_event}
+use Rattle.thr_model.proofs.ArrivalsKept.{Holds, Takes, IsKeptWithArrivals, with_arrivals, kept_put_in_row, kept_block_in, kept_block_if, kept_leave, kept_set_rank, kept_keeps, kept_free_row, kept_lock, kept_unlock, kept_regain, kept_wait, kept_timedwait, kept_delay, kept_signal, kept_wake_all, kept_enter, kept_undone, kept_read, kept_write, kept_close_out, kept_cancel_wait, kept_dispatch}
 
-module _ (R : Table Seat → Type 0) (k : IsKept R) where
-  -- The seats of what is made have it.
+module _ (R : ℕ → Table Seat → Type 0) (k : IsKeptWithArrivals R) where
+  -- The rows of what is made have it.
   abbrev Has : State → Type 0
-  Has st = R st.rows.seats
+  Has st = Holds R st.rows
 
   -- ---- calls
 
-  ready_if_has : (b : Bool) (rank : Tid → ℕ) (rs : Rows) (t : Tid) → R rs.seats → R (ready_if b rank rs t).seats
+  ready_if_has : (b : Bool) (rank : Tid → ℕ) (rs : Rows) (t : Tid) → Holds R rs → Holds R (ready_if b rank rs t)
   ready_if_has true rank rs t h = kept_put_in_row R k rs row.Ready t (rank t) h
   ready_if_has false rank rs t h = h
 
-  rank_if_has : (b : Bool) (ths : Threads) (rs : Rows) (t : Tid) → R rs.seats → R (rank_if b ths rs t).seats
+  rank_if_has : (b : Bool) (ths : Threads) (rs : Rows) (t : Tid) → Holds R rs → Holds R (rank_if b ths rs t)
   rank_if_has true ths rs t h = kept_set_rank R k rs t (rank_at ths t) h
   rank_if_has false ths rs t h = h
 
@@ -67,7 +68,7 @@ module _ (R : Table Seat → Type 0) (k : IsKept R) where
   cancelled_has st target o (reply.Effect _) h = h
   cancelled_has st target o _ h = h
 
-  given_has : (st : State) (rs : Rows) (o : Option Tid) → R rs.seats → Has (given_state st rs o)
+  given_has : (st : State) (rs : Rows) (o : Option Tid) → Holds R rs → Has (given_state st rs o)
   given_has st rs None h = h
   given_has st rs (Some t) h = kept_put_in_row R k rs row.Ready t (rank_of st t) h
 
@@ -75,7 +76,7 @@ module _ (R : Table Seat → Type 0) (k : IsKept R) where
   signals_has st c None h = kept_signal R k st.conds st.rows c h
   signals_has st c (Some w) h = kept_regain R k st.locks (signal st.conds st.rows c).rows w.1 w.0 (rank_of st w.0) (kept_signal R k st.conds st.rows c h)
 
-  woken_has : (st : State) (rs : Rows) (y : Reply) (o : Option Tid) → R rs.seats → Has (woken_state st rs y o)
+  woken_has : (st : State) (rs : Rows) (y : Reply) (o : Option Tid) → Holds R rs → Has (woken_state st rs y o)
   woken_has st rs y None h = h
   woken_has st rs y (Some t) h = kept_put_in_row R k rs row.Ready t (rank_of st t) h
 
@@ -154,7 +155,7 @@ module _ (R : Table Seat → Type 0) (k : IsKept R) where
   shared_has s st t g r (Asks call) h = called_has s st t g call r (asked g (shared_values st) call r) h
   shared_has s st t g r _ h = written_has st (written g (shared_values st) r) h
 
-  handed_has : (st : State) (o : once.Undone) (who : Option Tid) → R o.rows.seats → Has (handed_on st o who)
+  handed_has : (st : State) (o : once.Undone) (who : Option Tid) → Holds R o.rows → Has (handed_on st o who)
   handed_has st o None h = h
   handed_has st o (Some t) h = kept_put_in_row R k o.rows row.Ready t (rank_of st t) h
 
@@ -191,10 +192,10 @@ module _ (R : Table Seat → Type 0) (k : IsKept R) where
   -- ---- events
 
   -- It stays where a thread takes a processor that is there.
-  abbrev TakesBelow : ℕ → Type 0
-  TakesBelow n = (p : ℕ) → nat_lt p n ≡ true → (m : Table Seat) (t rank : ℕ) → R m → R (put m t (record { rank = rank; place = Runs p whole_slice }))
+  abbrev pub TakesBelow : ℕ → Type 0
+  TakesBelow n = (p : ℕ) → nat_lt p n ≡ true → Takes R p
 
-  dispatch_has : (st : State) (p : ℕ) (o : Option Tid) (made : Made) → R (dispatch st.rows p).rows.seats → dispatch_made st p (dispatch st.rows p) o ≡ Some made → Has made.state
+  dispatch_has : (st : State) (p : ℕ) (o : Option Tid) (made : Made) → Holds R (dispatch st.rows p).rows → dispatch_made st p (dispatch st.rows p) o ≡ Some made → Has made.state
   dispatch_has st p None made h e = absurd (cc)
   dispatch_has st p (Some t) made h e = subst (λ (m : Made). Has m.state) (ap (λ o. unwrap_or o made) e) h
 
@@ -219,33 +220,47 @@ module _ (R : Table Seat → Type 0) (k : IsKept R) where
   clock_has st false made h e = clock_at_has st (earliest st.conds) made h e
 
   -- Each event keeps it.
-  pub made_keeps : (s : Script) (n : ℕ) → TakesBelow n → (st : State) (e : Event) (made : Made) → R st.rows.seats → made_by s n st e ≡ Some made → R made.state.rows.seats
+  pub made_keeps : (s : Script) (n : ℕ) → TakesBelow n → (st : State) (e : Event) (made : Made) → Holds R st.rows → made_by s n st e ≡ Some made → Holds R made.state.rows
   unfolding made_by
   made_keeps s n runs st (event.Dispatch p) made h e = dispatch_if_has n runs st p (nat_lt p n) made refl h e
   made_keeps s n runs st (event.Turn p) made h e = turn_if_has s st (running st.rows p) made h e
   made_keeps s n runs st event.Clock made h e = clock_has st (some_can_run st.rows) made h e
 
   -- So it is there in every history.
-  pub history_keeps : R none → {s : Script} {n : ℕ} {st : State} {events : List Event} {entries : List Entry} {turns : ℕ} → TakesBelow n → History s n st events entries turns
-      → R st.rows.seats
-  history_keeps start runs opened = k.stands none 1 _ 0 row.Ready start
+  pub history_keeps : R 0 none → {s : Script} {n : ℕ} {st : State} {events : List Event} {entries : List Entry} {turns : ℕ} → TakesBelow n → History s n st events entries turns
+      → Holds R st.rows
+  history_keeps start runs opened = k.stands 0 none 1 _ row.Ready start
   history_keeps start {s} {n} runs (then_event {st} h open_ e made m) = made_keeps s n runs st e made (history_keeps start runs h) m
 
 -- ---- the numbers of seats rise
 
-canonical_takes : (n : ℕ) → TakesBelow (IsCanonical {A = Seat}) canonical_is_kept n
-canonical_takes n p is m t rank h = canonical_put m t _ h
+-- They do, whatever the next arrival is.
+abbrev SeatsRise : ℕ → Table Seat → Type 0
+SeatsRise n m = IsCanonical m
+
+rise_is_kept : IsKeptWithArrivals SeatsRise
+rise_is_kept = with_arrivals (IsCanonical {A = Seat}) canonical_is_kept
+
+canonical_takes : (n : ℕ) → TakesBelow SeatsRise rise_is_kept n
+canonical_takes n p is next m t rank h = canonical_put m t _ h
 
 pub made_canonical : (s : Script) (n : ℕ) (st : State) (e : Event) (made : Made) → IsCanonical st.rows.seats → made_by s n st e ≡ Some made → IsCanonical made.state.rows.seats
-made_canonical s n st e made h m = made_keeps (IsCanonical {A = Seat}) canonical_is_kept s n (canonical_takes n) st e made h m
+made_canonical s n st e made h m = made_keeps SeatsRise rise_is_kept s n (canonical_takes n) st e made h m
 
 pub history_canonical : {s : Script} {n : ℕ} {st : State} {events : List Event} {entries : List Entry} {turns : ℕ} → History s n st events entries turns → IsCanonical st.rows.seats
-history_canonical {s} {n} h = history_keeps (IsCanonical {A = Seat}) canonical_is_kept (canonical_none Seat) (canonical_takes n) h
+history_canonical {s} {n} h = history_keeps SeatsRise rise_is_kept (canonical_none Seat) (canonical_takes n) h
 
 -- ---- only processors that are there have threads
 
-below_takes : (n : ℕ) → TakesBelow (AreBelow n) (below_is_kept n) n
-below_takes n p is m t rank h = each_put (IsSeatBelow n) m t _ is h
+-- They alone do, whatever the next arrival is.
+abbrev SeatsBelow : ℕ → ℕ → Table Seat → Type 0
+SeatsBelow n next m = AreBelow n m
+
+seats_below_is_kept : (n : ℕ) → IsKeptWithArrivals (SeatsBelow n)
+seats_below_is_kept n = with_arrivals (AreBelow n) (below_is_kept n)
+
+below_takes : (n : ℕ) → TakesBelow (SeatsBelow n) (seats_below_is_kept n) n
+below_takes n p is next m t rank h = each_put (IsSeatBelow n) m t _ is h
 
 pub history_below : {s : Script} {n : ℕ} {st : State} {events : List Event} {entries : List Entry} {turns : ℕ} → History s n st events entries turns → AreBelow n st.rows.seats
-history_below {s} {n} h = history_keeps (AreBelow n) (below_is_kept n) (each_none (IsSeatBelow n)) (below_takes n) h
+history_below {s} {n} h = history_keeps (SeatsBelow n) (seats_below_is_kept n) (each_none (IsSeatBelow n)) (below_takes n) h

@@ -1,6 +1,6 @@
 //! Laws on histories.
 
-ghost use Rattle.std.specs.Prelude.{◌≡◌, ℕ, List, length, Option, None, Some};
+ghost use Rattle.std.specs.Prelude.{◌≡◌, ℕ, ◌<◌, true, List, length, Option, None, Some};
 ghost use Rattle.thr_values.specs.declared.event.Event.{Event};
 ghost use Rattle.thr_values.specs.declared.event.Stop.{Stop};
 ghost use Rattle.thr_values.specs.declared.history.Entry.{Entry};
@@ -9,7 +9,10 @@ ghost use Rattle.thr_remainder.specs.Remainders.{Remainder};
 ghost use Rattle.thr_remainder.specs.Scopes.{HasScopes};
 ghost use Rattle.thr_values.specs.declared.number.NameId.{NameId};
 ghost use Rattle.thr_parts.specs.Tables.{get};
-ghost use Rattle.thr_parts.specs.Rows.{best};
+ghost use Rattle.thr_values.specs.declared.number.Tid.{Tid};
+ghost use Rattle.thr_parts.specs.declared.row.RowId.{RowId};
+ghost use Rattle.thr_parts.specs.declared.row.Place.TheVariants.{Stands};
+ghost use Rattle.thr_parts.specs.Rows.{seat_of, row_of, before, best};
 ghost use Rattle.thr_parts.specs.Mutexes.{owner, waiters_row};
 ghost use Rattle.thr_model.specs.States.{State};
 ghost use Rattle.thr_model.specs.Turns.{Made};
@@ -53,4 +56,16 @@ pub fn scopes_stay_in_order()
 /// nobody owns it.
 pub fn free_mutexes_have_no_waiters()
     ensures { (s : Script) (n : ℕ) (state : State) (events : List Event) (entries : List Entry) (turns : ℕ) → History s n state events entries turns → (m : Option NameId) → owner state.locks m ≡ None → best state.rows (waiters_row m) ≡ None }
+{}
+
+/// In every history each thread that stands in a row has an arrival below the next one, and no two threads that stand in rows
+/// have the same.
+pub fn arrivals_are_given_once()
+    ensures below { (s : Script) (n : ℕ) (state : State) (events : List Event) (entries : List Entry) (turns : ℕ) → History s n state events entries turns → (t : Tid) (r : RowId) (rank arrival : ℕ) → seat_of state.rows t ≡ Some (record { rank = rank; place = Stands r arrival }) → arrival < state.rows.next_arrival }
+    ensures apart { (s : Script) (n : ℕ) (state : State) (events : List Event) (entries : List Entry) (turns : ℕ) → History s n state events entries turns → (t u : Tid) (r q : RowId) (i j arrival : ℕ) → seat_of state.rows t ≡ Some (record { rank = i; place = Stands r arrival }) → seat_of state.rows u ≡ Some (record { rank = j; place = Stands q arrival }) → t ≡ u }
+{}
+
+/// In every history the best thread of a row is before every other thread of it.
+pub fn best_is_before_every_other()
+    ensures { (s : Script) (n : ℕ) (state : State) (events : List Event) (entries : List Entry) (turns : ℕ) → History s n state events entries turns → (r : RowId) (t u : Tid) → best state.rows r ≡ Some t → row_of state.rows u ≡ Some r → (u.0 ≡ t.0 → ⊥) → before state.rows t u ≡ true }
 {}

@@ -1,0 +1,12 @@
+pub mod StepsStand
+pub mod HistoriesStand
+pub mod StatusMoves
+pub mod StatusRows
+pub mod StatusCalls
+pub mod QuietLines
+pub mod AnswerReading
+pub mod StatusTurns
+pub mod AnswerTurns
+pub mod DebtsKept
+pub mod CallLines
+pub mod StatusLives

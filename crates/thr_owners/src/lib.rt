@@ -1,0 +1,5 @@
+//! The owners of mutexes and of the global lock, in every history of the machine. The laws are functions that do nothing and
+//! whose contracts are the laws.
+#![tactic(auto)]
+
+pub mod laws;

@@ -1,0 +1,4 @@
+pub mod Courses
+pub mod Reaching
+pub mod Sound
+pub mod Returns

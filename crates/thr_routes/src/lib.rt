@@ -1,0 +1,4 @@
+//! The routes of unwindings in each legal history.
+#![tactic(auto)]
+
+pub mod laws;
