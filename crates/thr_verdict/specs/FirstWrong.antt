@@ -15,7 +15,6 @@ use Rattle.thr_syntax.specs.declared.journal.Journal.{Journal}
 use Rattle.thr_text.specs.Journals.{Names, numbered_line}
 use Rattle.thr_parts.specs.declared.row.Place.{Place}
 use Rattle.thr_parts.specs.declared.row.Place.TheVariants.{Runs, Stands}
-use Rattle.thr_parts.specs.declared.row.Seat.{Seat}
 use Rattle.thr_parts.specs.Rows.{Rows, seat_of}
 use Rattle.thr_model.specs.States.{State, opening}
 use Rattle.thr_model.specs.Turns.{Made}
@@ -35,6 +34,7 @@ wrong_after count right = record { place = count + 1; right = right }
 
 -- ---- the event that a line names
 
+-- The processor of a thread at this place, if it runs (docs/machine.md, "Threads").
 abbrev pub processor_at : Place → Option ℕ
 processor_at (Runs p slice) = Some p
 processor_at (Stands r arrival) = None
@@ -80,10 +80,12 @@ is_same_stop _ _ = false
 
 -- ---- the whole
 
+-- What is wrong first once an event's lines stand there, or the first of them that doesn't (docs/journal.md, "The verdict").
 abbrev pub goes_on : (ℕ → State → List Entry → Option Wrong) → ℕ → Made → Result (List Entry) Wrong → Option Wrong
 goes_on more count made (Err w) = Some w
 goes_on more count made (Ok rest) = more (count + length made.lines) made.state rest
 
+-- What is wrong first from an event on: its first line, where it isn't legal there (docs/journal.md, "The verdict").
 abbrev pub after_event : (ℕ → State → List Entry → Option Wrong) → Names → ℕ → List Entry → Option Made → Option Wrong
 after_event more names count rest None = Some (wrong_after count None)
 after_event more names count rest (Some made) = goes_on more count made (lines_after names count made.lines rest)
@@ -110,7 +112,7 @@ wrong_of s n entries stop = wrong_in (length entries + 1) s n stop 0 (opening s)
 abbrev pub first_wrong : Journal → Option Differs
 first_wrong j = option_map (λ w. differs_at j.script j.entries j.stop w.place w.right) (wrong_of j.script j.workers j.entries j.stop)
 
--- A line differs exactly where the history isn't legal. This is stated here alone, and is to be a contract of the verifier
--- (docs/theorems.md, "Stated and not proved").
+-- A line differs exactly where the history isn't legal. This is stated here alone, and is to be a contract of the verifier; that
+-- no line of a legal history differs is proved in `src/laws.rt` (docs/theorems.md, "Stated and not proved").
 abbrev pub FirstWrongIsExact : Journal → Type 0
 FirstWrongIsExact j = FormedJournal j → ((first_wrong j ≡ None) ↔ Legal j.script j.workers j.entries j.stop)

@@ -118,7 +118,7 @@ mutexes_in [] = []
 mutexes_in (item.Mutex m ∷ items) = m ∷ mutexes_in items
 mutexes_in (_ ∷ items) = mutexes_in items
 
--- What a report counts; for each mutex how often a thread got it.
+-- What a report counts; for each mutex how often a thread got it (docs/journal.md, "The report").
 pub record Counts : Type 0 where
   pub lines : ℕ
   pub threads : ℕ

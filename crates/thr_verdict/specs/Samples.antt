@@ -19,6 +19,7 @@ use Rattle.thr_values.specs.declared.history.What.{What}
 use Rattle.thr_values.specs.declared.history.What.TheVariants as what
 use Rattle.thr_values.specs.declared.history.Entry.{Entry}
 use Rattle.thr_values.specs.declared.event.Stop.{Stop}
+use Rattle.thr_values.specs.declared.event.Stop.TheVariants as stops
 use Rattle.thr_syntax.specs.declared.journal.Journal.{Journal}
 use Rattle.thr_syntax.specs.declared.dce.DceCall.{DceCall}
 use Rattle.thr_syntax.specs.declared.dce.DceCall.TheVariants as dce
@@ -180,6 +181,88 @@ cancelled_wait_lines =
     ∷ thread 1 (what.Say minus_one)
     ∷ thread 1 (what.End (pos 0))
     ∷ []
+
+-- A journal of it that stops for want of memory after these lines.
+abbrev pub cancelled_wait_until : List Entry → Journal
+cancelled_wait_until entries = record { workers = 1; script = cancelled_wait; entries = entries; stop = stops.Memory }
+
+-- ---- two ranks
+
+-- A script whose first thread creates a second one and gives it a greater rank than its own.
+abbrev pub two_ranks : Script
+two_ranks = record {
+  names = builtin_names ++ codes "w" ∷ codes "main" ∷ [];
+  items =
+      item.Routine (record { name = named 10; locals = codes "a" ∷ []; body = [] })
+      ∷ item.Routine (record {
+        name = named 11;
+        locals = codes "a" ∷ [];
+        body =
+            calling (dce.Create (Local 0) None (named 10) (expr.Num (pos 0)))
+            ∷ calling (dce.Setprio (expr.Var (Local 0)) (expr.Num (pos 17)) (Local 0))
+            ∷ [];
+      })
+      ∷ [];
+}
+
+-- Its lines until both threads are ready.
+abbrev pub two_ranks_ready : List Entry
+two_ranks_ready =
+    dispatch 1
+    ∷ calls 1 call.Create (arg.Word 0 ∷ name_arg (named 10) ∷ number_arg 0 ∷ []) (reply.Value (pos 2))
+    ∷ calls 1 call.Setprio (number_arg 2 ∷ number_arg 17 ∷ []) (reply.Value (pos 16))
+    ∷ []
+
+-- The lines after them where the thread of greater rank goes first.
+abbrev pub greater_first : List Entry
+greater_first = dispatch 2 ∷ thread 2 (what.End (pos 0)) ∷ dispatch 1 ∷ thread 1 (what.End (pos 0)) ∷ []
+
+-- The lines after them where the other one does.
+abbrev pub lesser_first : List Entry
+lesser_first = dispatch 1 ∷ thread 1 (what.End (pos 0)) ∷ dispatch 2 ∷ thread 2 (what.End (pos 0)) ∷ []
+
+-- A journal of it, with these lines after them.
+abbrev pub two_ranks_journal : List Entry → Journal
+two_ranks_journal rest = record { workers = 1; script = two_ranks; entries = two_ranks_ready ++ rest; stop = stops.Finished }
+
+-- ---- a delay beside a thread that is ready
+
+-- A thread that is created, and a delay of its maker.
+abbrev pub delay_beside_another : Script
+delay_beside_another = record {
+  names = builtin_names ++ codes "w" ∷ codes "main" ∷ [];
+  items =
+      item.Routine (record { name = named 10; locals = codes "a" ∷ []; body = [] })
+      ∷ item.Routine (record {
+        name = named 11;
+        locals = codes "a" ∷ [];
+        body =
+            calling (dce.Create (Local 0) None (named 10) (expr.Num (pos 0)))
+            ∷ calling (dce.DelayNp (expr.Num (pos 5)))
+            ∷ [];
+      })
+      ∷ [];
+}
+
+-- Its lines until the maker waits for a time and the other thread is ready.
+abbrev pub delay_begun : List Entry
+delay_begun =
+    dispatch 1
+    ∷ calls 1 call.Create (arg.Word 0 ∷ name_arg (named 10) ∷ number_arg 0 ∷ []) (reply.Value (pos 2))
+    ∷ calls 1 call.DelayNp (number_arg 5 ∷ []) reply.Blocks
+    ∷ []
+
+-- A move of the clock to 5.
+abbrev pub clock_to_five : Entry
+clock_to_five = record { who = who.Clock; what = what.Clock (pos 5) }
+
+-- Another processor takes thread 2.
+abbrev pub on_another_processor : Entry
+on_another_processor = record { who = who.Proc 1; what = what.Run (record { 0 = 2 }) }
+
+-- A journal of it that stops for want of memory, with these lines after them.
+abbrev pub delay_journal : List Entry → Journal
+delay_journal rest = record { workers = 1; script = delay_beside_another; entries = delay_begun ++ rest; stop = stops.Memory }
 
 -- ---- two mutexes
 

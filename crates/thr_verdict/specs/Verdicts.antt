@@ -9,7 +9,7 @@ use Rattle.thr_text.specs.Journals.{Names, who_word, what_words, stop_words}
 
 -- ---- lines of a journal below `history`
 
--- A line of the history with its number, or the stop line.
+-- A line of the history with its number, or the stop line (docs/journal.md, "The verdict").
 pub data JournalLine : Type 0 where
   Numbered : (number : ℕ) → (entry : Entry) → JournalLine
   Stopped : (stop : Stop) → JournalLine

@@ -1,5 +1,6 @@
 //! Worked cases, computed from the definitions: each is a function that does nothing and whose contract is the case.
 
+pub mod illegal;
 pub mod journals;
 pub mod kinds;
 pub mod lines;

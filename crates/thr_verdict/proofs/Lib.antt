@@ -1,0 +1,2 @@
+pub mod LegalLines
+pub mod RightLines
