@@ -1,3 +1,3 @@
-pub mod Rounds
+pub mod Events
 pub mod Runs
 pub mod Words

@@ -1,8 +1,12 @@
 -- Worked scripts with their histories.
-use Rattle.std.specs.Prelude.{◌≡◌, ℕ, List}
+use Rattle.std.specs.Prelude.{◌≡◌, ℕ, ℤ, List, [], ◌∷◌}
 use Prim.Native.String.{String}
 use Rattle.thr_values.specs.declared.event.Event.{Event}
 use Rattle.thr_values.specs.declared.event.Stop.{Stop}
+use Rattle.thr_values.specs.declared.history.Who.{Who}
+use Rattle.thr_values.specs.declared.history.Who.TheVariants as who
+use Rattle.thr_values.specs.declared.history.What.{What}
+use Rattle.thr_values.specs.declared.history.What.TheVariants as what
 use Rattle.thr_values.specs.declared.history.Entry.{Entry}
 use Rattle.thr_syntax.specs.declared.tree.Script.{Script}
 use Rattle.thr_syntax.specs.Canon.{canon}
@@ -45,3 +49,22 @@ RunsAlone row history stop = Runs row 1 (past_alone (script_of row)) history sto
 -- By these events of so many processors the script has this history, and stops so.
 abbrev pub RunsBy : String → ℕ → List Event → String → Stop → Type 0
 RunsBy row workers events history stop = Runs row workers (past_by (script_of row) workers events) history stop
+
+-- ---- what threads say
+
+abbrev pub said_by : Who → What → List (ℕ × ℤ) → List (ℕ × ℤ)
+said_by (who.Thread t) (what.Say n) said = (t.0, n) ∷ said
+said_by _ _ said = said
+
+-- What threads say, each with its number, in their order.
+abbrev pub said : List Entry → List (ℕ × ℤ)
+said [] = []
+said (e ∷ entries) = said_by e.who e.what (said entries)
+
+-- By these events of so many processors the script has a history in which threads say this. It is legal and stops so, and it meets
+-- the laws. This is for histories that are too long to be written out.
+pub record SaysBy (row : String) (workers : ℕ) (events : List Event) (says : List (ℕ × ℤ)) (stop : Stop) : Type 0 where
+  pub script : canon (script_of row) ≡ row_text row
+  pub legal : Legal (script_of row) workers (past_by (script_of row) workers events).entries stop
+  pub said_then : said (past_by (script_of row) workers events).entries ≡ says
+  pub laws : MeetsLaws (script_of row) (past_by (script_of row) workers events).entries stop

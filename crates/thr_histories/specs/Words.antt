@@ -2,8 +2,7 @@
 use Rattle.thr_model.specs.Computing.{model_words}
 use Rattle.thr_laws.specs.Computing.{law_words}
 use Rattle.thr_examples.specs.Words.{example_words}
-use Rattle.thr_histories.specs.Rounds.{processors_from, round_of, rounds}
 
 unfoldable pub history_words : Unit {0}
-unfolding example_words law_words model_words processors_from round_of rounds
+unfolding example_words law_words model_words
 history_words = tt

@@ -7,6 +7,6 @@ pub mod exceptions;
 pub mod mutexes;
 pub mod onces;
 pub mod pipes;
-pub mod rounds;
+pub mod processors;
 pub mod scheduling;
 pub mod times;

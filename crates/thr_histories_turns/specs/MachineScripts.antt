@@ -315,3 +315,7 @@ shared_by_calls = "dcethr 1 ; shared s 7 ; shared u -2 ; pipe p 2 ; routine main
 -- A read that stores into a shared variable when it returns.
 abbrev pub shared_at_return : String
 shared_at_return = "dcethr 1 ; shared s 3 ; pipe p 1 ; routine w a ; write p 9 ; say s ; end ; routine main a ; local t ; pthread_create t default w 0 ; read p s s ; say s ; end"
+
+-- Joiners of two ranks, the lesser of which waits first and is equal to the other when both are ready.
+abbrev pub joiners_keep_their_ranks : String
+joiners_keep_their_ranks = "dcethr 1 ; attr f ; routine e x ; pthread_delay_np 5 ; end ; routine w x ; pthread_join 2 x ; say self ; end ; routine main x ; local t ; pthread_create t default e 0 ; pthread_create t default w 0 ; pthread_yield ; pthread_attr_create f ; pthread_attr_setinheritsched f PTHREAD_DEFAULT_SCHED ; pthread_attr_setprio f 20 ; pthread_create t f w 0 ; pthread_setprio self 31 x ; pthread_join 2 x ; pthread_setprio 4 16 x ; end"

@@ -27,3 +27,10 @@ pub fn joiners_by_rank()
 pub fn ended_thread_changed()
     ensures { RunsAlone scripts.ended_thread_changed "1 p0 run t1 ; 2 t1 pthread_create default w 0 = 2 ; 3 t1 pthread_yield = ok ; 4 p0 run t2 ; 5 t2 end 0 ; 6 p0 run t1 ; 7 t1 pthread_setprio 2 20 = 16 ; 8 t1 pthread_getprio 2 = 20 ; 9 t1 pthread_setscheduler 2 SCHED_RR 5 = 2 ; 10 t1 pthread_getscheduler 2 = 1 ; 11 t1 say 1 ; 12 t1 pthread_setprio 2 -1 = EINVAL ; 13 t1 pthread_setscheduler 2 SCHED_FIFO 32 = EINVAL ; 14 t1 pthread_detach 2 = ok ; 15 t1 pthread_setscheduler 2 SCHED_FIFO 32 = ESRCH ; 16 t1 pthread_getprio 2 = ESRCH ; 17 t1 say 1 ; 18 t1 end 0 ; stop finished" stops.Finished }
 {}
+
+/// Joiners are woken by the rank with which they wait, also where nobody changes it meanwhile; the arrivals that they take then
+/// count when they are of equal rank.
+#[tactic(auto, unfolding(crate::specs::Words::history_words))]
+pub fn joiners_keep_their_ranks()
+    ensures { RunsAlone scripts.joiners_keep_their_ranks "1 p0 run t1 ; 2 t1 pthread_create default e 0 = 2 ; 3 t1 pthread_create default w 0 = 3 ; 4 t1 pthread_yield = ok ; 5 p0 run t2 ; 6 t2 pthread_delay_np 5 = blocks ; 7 p0 run t3 ; 8 t3 pthread_join 2 = blocks ; 9 p0 run t1 ; 10 t1 pthread_attr_create f = ok ; 11 t1 pthread_attr_setinheritsched f PTHREAD_DEFAULT_SCHED = ok ; 12 t1 pthread_attr_setprio f 20 = ok ; 13 t1 pthread_create f w 0 = 4 ; 14 p0 run t4 ; 15 t4 pthread_join 2 = blocks ; 16 p0 run t1 ; 17 t1 pthread_setprio 1 31 = 16 ; 18 t1 pthread_join 2 = blocks ; 19 clock 5 ; 20 p0 run t2 ; 21 t2 ret = ok ; 22 t2 end 0 ; 23 p0 run t1 ; 24 t1 ret = 0 ; 25 t1 pthread_setprio 4 16 = 20 ; 26 t1 end 0 ; 27 p0 run t4 ; 28 t4 ret = 0 ; 29 t4 say 4 ; 30 t4 end 0 ; 31 p0 run t3 ; 32 t3 ret = 0 ; 33 t3 say 3 ; 34 t3 end 0 ; stop finished" stops.Finished }
+{}

@@ -58,7 +58,7 @@ pub fn once_undone_between_processors()
     ensures { RunsBy scripts.once_undone_between_processors 2 scripts.once_undone_between_processors_events "1 p1 run t1 ; 2 t1 pthread_create default w 0 = 2 ; 3 p0 run t2 ; 4 t1 try 1 17 ; 5 t1 pthread_once o bad = ok ; 6 t1 once 2 o ; 7 t2 pthread_once o good = blocks ; 8 t1 say 1 ; 9 t1 raise 1 p ; 10 t1 undone 2 1 ; 11 p0 run t2 ; 12 t2 ret = ok ; 13 t2 once 1 o ; 14 t1 catch 1 1 19 ; 15 t1 pthread_once o bad = blocks ; 16 t2 say 2 ; 17 t2 done 1 ; 18 p1 run t1 ; 19 t2 end 0 ; 20 t1 ret = ok ; 21 t1 endcatch 1 ; 22 t1 end 0 ; stop finished" stops.Finished }
 {}
 
-/// A cancel that comes between the last statement and the end step of a thread with both cancelabilities on doesn't stand in the end step's way: the destructor is called first, and the cancel is delivered in it. After the end the reply is `ended`.
+/// A cancel that comes between the last statement and the end step of a thread with both cancelabilities on isn't delivered before the end step: the destructor is called first, and the cancel is delivered in it. After the end the reply is `ended`.
 #[tactic(auto, unfolding(crate::specs::Words::history_words))]
 pub fn cancel_before_the_end_step()
     ensures { RunsBy scripts.cancel_before_the_end_step 2 scripts.cancel_before_the_end_step_events "1 p0 run t1 ; 2 t1 pthread_create default w 0 = 2 ; 3 p1 run t2 ; 4 t1 pthread_keycreate k d = ok ; 5 t1 pthread_setspecific k 3 = ok ; 6 t1 pthread_setasynccancel CANCEL_ON = 0 ; 7 t1 pause ; 8 t2 pthread_cancel 1 = pending ; 9 t1 destroy 1 k 3 ; 10 t1 deliver 1 4 ; 11 t1 lost 1 1 ; 12 t1 end 9 ; 13 t2 pthread_cancel 1 = ended ; 14 t2 end 0 ; stop finished" stops.Finished }

@@ -247,3 +247,35 @@ ends_as_quiet_steps = "dcethr 1 ; exception e ; routine three a ; while < a 30 ;
 -- A wait for the global lock that is cancelled twice with general cancelability off.
 abbrev pub global_lock_with_cancelability_off : String
 global_lock_with_cancelability_off = "dcethr 1 ; routine locks a ; pthread_setcancel CANCEL_OFF a ; pthread_lock_global_np ; pthread_testcancel ; pthread_setcancel CANCEL_ON a ; pthread_unlock_global_np ; pthread_testcancel ; end ; routine main a ; pthread_lock_global_np ; pthread_lock_global_np ; pthread_create a default locks 0 ; pthread_yield ; pthread_cancel 2 ; pthread_cancel 2 ; pthread_unlock_global_np ; pthread_unlock_global_np ; end"
+
+-- Two waiters of a mutex, of which the one of lesser rank comes first.
+abbrev pub mutex_by_rank : String
+mutex_by_rank = "dcethr 1 ; mutex m ; attr f ; routine w x ; pthread_mutex_lock m ; pthread_mutex_unlock m ; say self ; end ; routine main x ; local t ; pthread_mutex_init m default ; pthread_mutex_lock m ; pthread_create t default w 0 ; pthread_yield ; pthread_attr_create f ; pthread_attr_setinheritsched f PTHREAD_DEFAULT_SCHED ; pthread_attr_setprio f 20 ; pthread_create t f w 0 ; pthread_mutex_unlock m ; end"
+
+-- The same with the global lock.
+abbrev pub global_lock_by_rank : String
+global_lock_by_rank = "dcethr 1 ; attr f ; routine w x ; pthread_lock_global_np ; pthread_unlock_global_np ; say self ; end ; routine main x ; local t ; pthread_lock_global_np ; pthread_create t default w 0 ; pthread_yield ; pthread_attr_create f ; pthread_attr_setinheritsched f PTHREAD_DEFAULT_SCHED ; pthread_attr_setprio f 20 ; pthread_create t f w 0 ; pthread_unlock_global_np ; end"
+
+-- Two waiters of a condition, of which the one of lesser rank comes first.
+abbrev pub condition_by_rank : String
+condition_by_rank = "dcethr 1 ; mutex m ; cond c ; attr f ; routine w x ; pthread_mutex_lock m ; pthread_cond_wait c m ; pthread_mutex_unlock m ; say self ; end ; routine main x ; local t ; pthread_mutex_init m default ; pthread_cond_init c ; pthread_create t default w 0 ; pthread_yield ; pthread_attr_create f ; pthread_attr_setinheritsched f PTHREAD_DEFAULT_SCHED ; pthread_attr_setprio f 20 ; pthread_create t f w 0 ; pthread_cond_signal c ; pthread_cond_signal c ; end"
+
+-- The same with timed waits.
+abbrev pub timed_waiters_by_rank : String
+timed_waiters_by_rank = "dcethr 1 ; mutex m ; cond c ; attr f ; routine w x ; pthread_mutex_lock m ; pthread_cond_timedwait c m 9 ; say err ; pthread_mutex_unlock m ; end ; routine main x ; local t ; pthread_mutex_init m default ; pthread_cond_init c ; pthread_create t default w 0 ; pthread_yield ; pthread_attr_create f ; pthread_attr_setinheritsched f PTHREAD_DEFAULT_SCHED ; pthread_attr_setprio f 20 ; pthread_create t f w 0 ; pthread_cond_signal c ; end"
+
+-- Two readers of an empty pipe, of which the one of lesser rank comes first.
+abbrev pub readers_by_rank : String
+readers_by_rank = "dcethr 1 ; pipe p 1 ; attr f ; routine r x ; local g ; read p x g ; say x ; end ; routine main x ; local t ; pthread_create t default r 0 ; pthread_yield ; pthread_attr_create f ; pthread_attr_setinheritsched f PTHREAD_DEFAULT_SCHED ; pthread_attr_setprio f 20 ; pthread_create t f r 0 ; write p 5 ; write p 6 ; end"
+
+-- Two writers of a full pipe, of which the one of lesser rank comes first.
+abbrev pub writers_by_rank : String
+writers_by_rank = "dcethr 1 ; pipe p 1 ; attr f ; routine w x ; write p self ; end ; routine main x ; local t ; write p 1 ; pthread_create t default w 0 ; pthread_yield ; pthread_attr_create f ; pthread_attr_setinheritsched f PTHREAD_DEFAULT_SCHED ; pthread_attr_setprio f 20 ; pthread_create t f w 0 ; read p x t ; read p x t ; say x ; read p x t ; say x ; end"
+
+-- Two threads that wait for a once block, of which the one of lesser rank comes first.
+abbrev pub once_by_rank : String
+once_by_rank = "dcethr 1 ; exception e ; once o ; attr f ; routine i x ; local t ; pthread_create t default w 0 ; pthread_yield ; pthread_attr_create f ; pthread_attr_setinheritsched f PTHREAD_DEFAULT_SCHED ; pthread_attr_setprio f 20 ; pthread_create t f w 0 ; raise e ; end ; routine j x ; say self ; end ; routine w x ; pthread_once o j ; end ; routine main x ; pthread_once o i ; end"
+
+-- Threads that wait for a mutex, as a reader and as a writer, and are cancelled twice.
+abbrev pub cancels_merge_at_waits : String
+cancels_merge_at_waits = "dcethr 1 ; mutex m ; pipe p 1 ; pipe q 1 ; routine l x ; pthread_mutex_lock m ; end ; routine r x ; local g ; pthread_setcancel CANCEL_OFF g ; read p x g ; end ; routine w x ; local g ; pthread_setcancel CANCEL_OFF g ; write q 2 ; end ; routine main x ; local t ; pthread_mutex_init m default ; pthread_mutex_lock m ; write q 1 ; pthread_create t default l 0 ; pthread_create t default r 0 ; pthread_create t default w 0 ; pthread_yield ; pthread_cancel 2 ; pthread_cancel 2 ; pthread_cancel 3 ; pthread_cancel 3 ; pthread_cancel 4 ; pthread_cancel 4 ; end"

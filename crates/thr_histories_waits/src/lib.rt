@@ -4,4 +4,5 @@
 
 pub mod asynchrony;
 pub mod conditions;
+pub mod waiters_by_rank;
 pub mod waits;

@@ -4,7 +4,7 @@ ghost use Rattle.thr_values.specs.declared.event.Stop.TheVariants as stops;
 ghost use Rattle.thr_histories.specs.Runs.{RunsAlone};
 ghost use Rattle.thr_histories_waits.specs.WaitScripts as scripts;
 
-/// A delay, a join, a read and a write are cancelled, in another order than they began; the item of the cancelled writer enters no pipe, and an ended thread is past cancels.
+/// A delay, a join, a read and a write are cancelled, in another order than they began; the item of the cancelled writer enters no pipe, and an ended thread gets `ended`.
 #[tactic(auto, unfolding(crate::specs::Words::history_words))]
 pub fn cancels_at_points()
     ensures { RunsAlone scripts.cancels_at_points "1 p0 run t1 ; 2 t1 write q 8 = ok ; 3 t1 pthread_create default sleeps 0 = 2 ; 4 t1 pthread_create default joins 0 = 3 ; 5 t1 pthread_create default reads 0 = 4 ; 6 t1 pthread_create default writes 9 = 5 ; 7 t1 pthread_yield = ok ; 8 p0 run t2 ; 9 t2 pthread_delay_np 5 = blocks ; 10 p0 run t3 ; 11 t3 pthread_join 1 = blocks ; 12 p0 run t4 ; 13 t4 read p = blocks ; 14 p0 run t5 ; 15 t5 write q 9 = blocks ; 16 p0 run t1 ; 17 t1 pthread_cancel 5 = wakes ; 18 t1 pthread_cancel 3 = wakes ; 19 t1 pthread_cancel 4 = wakes ; 20 t1 pthread_cancel 2 = wakes ; 21 t1 pthread_cancel 3 = merged ; 22 t1 write p 1 = ok ; 23 t1 read p = 1 ; 24 t1 read q = 8 ; 25 p0 run t5 ; 26 t5 deliver 1 17 ; 27 t5 bottom 1 -1 ; 28 t5 end -1 ; 29 p0 run t3 ; 30 t3 deliver 1 9 ; 31 t3 bottom 1 -1 ; 32 t3 end -1 ; 33 p0 run t4 ; 34 t4 deliver 1 14 ; 35 t4 bottom 1 -1 ; 36 t4 end -1 ; 37 p0 run t2 ; 38 t2 deliver 1 5 ; 39 t2 bottom 1 -1 ; 40 t2 end -1 ; 41 p0 run t1 ; 42 t1 write q 3 = ok ; 43 t1 read q = 3 ; 44 t1 pthread_cancel 3 = ended ; 45 t1 end 0 ; stop finished" stops.Finished }
@@ -104,4 +104,11 @@ pub fn join_kept_under_cancel()
 #[tactic(auto, unfolding(crate::specs::Words::history_words))]
 pub fn global_lock_with_cancelability_off()
     ensures { RunsAlone scripts.global_lock_with_cancelability_off "1 p0 run t1 ; 2 t1 pthread_lock_global_np = ok ; 3 t1 pthread_lock_global_np = ok ; 4 t1 pthread_create default locks 0 = 2 ; 5 t1 pthread_yield = ok ; 6 p0 run t2 ; 7 t2 pthread_setcancel CANCEL_OFF = 1 ; 8 t2 pthread_lock_global_np = blocks ; 9 p0 run t1 ; 10 t1 pthread_cancel 2 = pending ; 11 t1 pthread_cancel 2 = merged ; 12 t1 pthread_unlock_global_np = ok ; 13 t1 pthread_unlock_global_np = ok ; 14 t2 gift global ; 15 t1 end 0 ; 16 p0 run t2 ; 17 t2 ret = ok ; 18 t2 pthread_testcancel = ok ; 19 t2 pthread_setcancel CANCEL_ON = 0 ; 20 t2 pthread_unlock_global_np = ok ; 21 t2 deliver 1 8 ; 22 t2 bottom 1 -1 ; 23 t2 end -1 ; stop finished" stops.Finished }
+{}
+
+/// A second cancel of a thread that waits for a mutex, or as a reader or a writer with general cancelability off, merges with the
+/// first.
+#[tactic(auto, unfolding(crate::specs::Words::history_words))]
+pub fn cancels_merge_at_waits()
+    ensures { RunsAlone scripts.cancels_merge_at_waits "1 p0 run t1 ; 2 t1 pthread_mutex_init m default = ok ; 3 t1 pthread_mutex_lock m = ok ; 4 t1 write q 1 = ok ; 5 t1 pthread_create default l 0 = 2 ; 6 t1 pthread_create default r 0 = 3 ; 7 t1 pthread_create default w 0 = 4 ; 8 t1 pthread_yield = ok ; 9 p0 run t2 ; 10 t2 pthread_mutex_lock m = blocks ; 11 p0 run t3 ; 12 t3 pthread_setcancel CANCEL_OFF = 1 ; 13 t3 read p = blocks ; 14 p0 run t4 ; 15 t4 pthread_setcancel CANCEL_OFF = 1 ; 16 t4 write q 2 = blocks ; 17 p0 run t1 ; 18 t1 pthread_cancel 2 = pending ; 19 t1 pthread_cancel 2 = merged ; 20 t1 pthread_cancel 3 = pending ; 21 t1 pthread_cancel 3 = merged ; 22 t1 pthread_cancel 4 = pending ; 23 t1 pthread_cancel 4 = merged ; 24 t1 end 0 ; stop deadlock 3 t2" (stops.Deadlock 3 (record { 0 = 2 })) }
 {}

@@ -1,8 +1,9 @@
 use Rattle.std.proofs.Common.{refl}
 use Rattle.thr_histories.specs.Words.{history_words}
+use Rattle.thr_examples.specs.Scripts as scripts
 use Rattle.thr_histories.proofs.Run.{runs-alone}
 use Rattle.thr_histories.proofs.scheduling.joined_twice.Goals as goal
 
 pub returns : goal.returns
 unfolding history_words
-returns c = runs-alone _ _ _ refl refl refl refl
+returns c = runs-alone scripts.joined_twice _ _ refl refl refl refl

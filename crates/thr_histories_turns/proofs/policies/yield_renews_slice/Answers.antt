@@ -1,8 +1,9 @@
 use Rattle.std.proofs.Common.{refl}
 use Rattle.thr_histories_turns.specs.Words.{history_words}
+use Rattle.thr_histories_turns.specs.MachineScripts as scripts
 use Rattle.thr_histories.proofs.Run.{runs-alone}
 use Rattle.thr_histories_turns.proofs.policies.yield_renews_slice.Goals as goal
 
 pub returns : goal.returns
 unfolding history_words
-returns c = runs-alone _ _ _ refl refl refl refl
+returns c = runs-alone scripts.yield_renews_slice _ _ refl refl refl refl

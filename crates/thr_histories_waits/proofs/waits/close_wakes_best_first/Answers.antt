@@ -1,8 +1,9 @@
 use Rattle.std.proofs.Common.{refl}
 use Rattle.thr_histories_waits.specs.Words.{history_words}
+use Rattle.thr_histories_waits.specs.WaitScripts as scripts
 use Rattle.thr_histories.proofs.Run.{runs-alone}
 use Rattle.thr_histories_waits.proofs.waits.close_wakes_best_first.Goals as goal
 
 pub returns : goal.returns
 unfolding history_words
-returns c = runs-alone _ _ _ refl refl refl refl
+returns c = runs-alone scripts.close_wakes_best_first _ _ refl refl refl refl

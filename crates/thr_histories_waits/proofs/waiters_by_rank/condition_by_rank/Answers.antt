@@ -1,0 +1,9 @@
+use Rattle.std.proofs.Common.{refl}
+use Rattle.thr_histories_waits.specs.Words.{history_words}
+use Rattle.thr_histories_waits.specs.WaitScripts as scripts
+use Rattle.thr_histories.proofs.Run.{runs-alone}
+use Rattle.thr_histories_waits.proofs.waiters_by_rank.condition_by_rank.Goals as goal
+
+pub returns : goal.returns
+unfolding history_words
+returns c = runs-alone scripts.condition_by_rank _ _ refl refl refl refl
