@@ -18,12 +18,12 @@ use Rattle.thr_text.specs.Numbers.{AreSigned, HaveNumbers, form_numbers}
 use Rattle.thr_text.specs.Blocks.{block_faults}
 use Rattle.thr_text.specs.NameFaults.{name_faults}
 use Rattle.thr_text.specs.Reading.{scan_faults, script_lines, own_lines, HaveForms, numbered_lines, end_of}
-use Rattle.thr_examples.specs.Rows.{row_lines, row_text}
+use Rattle.thr_examples.specs.OneLine.{in_lines, text_in_lines}
 use Rattle.thr_examples.specs.Pasted.{names_of, script_of, reads}
 
 -- The words of the lines after the first.
 abbrev pub own_words : String → List (List Word)
-own_words row = map words_of (drop 1 (row_lines row))
+own_words source = map words_of (drop 1 (in_lines source))
 
 -- ---- lines with a form
 
@@ -79,27 +79,27 @@ have_numbers-numbers (f ∷ fs) e =
 -- ---- scripts
 
 -- The rules of a script.
-pub record Kept (row : String) : Type 0 where
-  pub canonical : canon (script_of row) ≡ row_text row
-  pub same : own_lines (script_of row) ≡ own_words row
-  pub plain : scan_faults 1 false (lines (row_text row)) ≡ []
-  pub words : map (λ l. l.1) (script_lines (row_text row)) ≡ own_words row
-  pub numbers : have_numbers (lines_of (script_of row)) ≡ true
-  pub forms : have_forms (own_words row) ≡ true
-  pub blocks : block_faults (length (own_words row) + 2) [] (numbered_lines 2 (own_words row)) ≡ []
-  pub limits : name_faults (length (own_words row) + 2) (numbered_lines 2 (own_words row)) ≡ []
-  pub short : end_of (row_text row) ≤ 20001
+pub record Kept (source : String) : Type 0 where
+  pub canonical : canon (script_of source) ≡ text_in_lines source
+  pub same : own_lines (script_of source) ≡ own_words source
+  pub plain : scan_faults 1 false (lines (text_in_lines source)) ≡ []
+  pub words : map (λ l. l.1) (script_lines (text_in_lines source)) ≡ own_words source
+  pub numbers : have_numbers (lines_of (script_of source)) ≡ true
+  pub forms : have_forms (own_words source) ≡ true
+  pub blocks : block_faults (length (own_words source) + 2) [] (numbered_lines 2 (own_words source)) ≡ []
+  pub limits : name_faults (length (own_words source) + 2) (numbered_lines 2 (own_words source)) ≡ []
+  pub short : end_of (text_in_lines source) ≤ 20001
 
-pub row_reads : (row : String) → Kept row → reads row
-row_reads row k = record {
+pub source_reads : (source : String) → Kept source → reads source
+source_reads source k = record {
   canonical = k.canonical;
   read = record {
     plain = k.plain;
     words = k.words ∙ sym k.same;
     formed = record {
       names = ap names_of (sym k.same);
-      numbers = have_numbers-numbers (lines_of (script_of row)) k.numbers;
-      forms = subst HaveForms (sym k.same) (have_forms-forms (own_words row) k.forms);
+      numbers = have_numbers-numbers (lines_of (script_of source)) k.numbers;
+      forms = subst HaveForms (sym k.same) (have_forms-forms (own_words source) k.forms);
       blocks = ap (λ (w : List (List Word)). block_faults (length w + 2) [] (numbered_lines 2 w)) k.same ∙ k.blocks;
       names_and_limits = ap (λ (w : List (List Word)). name_faults (length w + 2) (numbered_lines 2 w)) k.same ∙ k.limits;
     };

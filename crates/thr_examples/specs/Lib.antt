@@ -2,7 +2,7 @@ pub mod Texts
 pub mod Words
 pub mod Lines
 pub mod Spelled
-pub mod Rows
+pub mod OneLine
 pub mod Arguments
 pub mod Resolved
 pub mod Nested

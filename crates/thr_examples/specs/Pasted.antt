@@ -11,7 +11,7 @@ use Rattle.thr_text.specs.Lexing.{words_of}
 use Rattle.thr_text.specs.Tables.{declarations}
 use Rattle.thr_text.specs.Reading.{Reads}
 use Rattle.thr_text.specs.Journals.{numbered, stop_words}
-use Rattle.thr_examples.specs.Rows.{row_lines, row_text}
+use Rattle.thr_examples.specs.OneLine.{in_lines, text_in_lines}
 use Rattle.thr_examples.specs.Resolved.{forms_of}
 use Rattle.thr_examples.specs.Nested.{below}
 
@@ -27,7 +27,7 @@ script_of_lines lines = script_with (names_of lines) lines
 
 -- The script of such a text. Of a text that is no script it says nothing.
 abbrev pub script_of : String → Script
-script_of row = script_of_lines (map words_of (drop 1 (row_lines row)))
+script_of source = script_of_lines (map words_of (drop 1 (in_lines source)))
 
 -- The text is the canonical text of the script, and read as it.
 pub record IsScript (text : List ℕ) (s : Script) : Type 0 where
@@ -35,7 +35,7 @@ pub record IsScript (text : List ℕ) (s : Script) : Type 0 where
   pub read : Reads text s
 
 abbrev pub reads : String → Type 0
-reads row = IsScript (row_text row) (script_of row)
+reads source = IsScript (text_in_lines source) (script_of source)
 
 -- The numbered lines of a history and its stop line, as they stand in a journal.
 abbrev pub history_text : Script → List Entry → Stop → List ℕ

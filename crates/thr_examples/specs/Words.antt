@@ -2,7 +2,7 @@
 use Rattle.thr_syntax.specs.Computing.{tree_words}
 use Rattle.thr_syntax.specs.Folds.{each_expr, each_stmt}
 use Rattle.thr_text.specs.Computing.{text_words}
-use Rattle.thr_examples.specs.Rows.{lines_between}
+use Rattle.thr_examples.specs.OneLine.{lines_between}
 use Rattle.thr_examples.specs.Arguments.{place_in, operator_in, arguments}
 use Rattle.thr_examples.specs.Resolved.{call_of, form_after, forms_of}
 use Rattle.thr_examples.specs.Nested.{with_line, below}

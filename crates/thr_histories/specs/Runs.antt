@@ -16,7 +16,7 @@ use Rattle.thr_laws.specs.Routed.{Routed}
 use Rattle.thr_laws.specs.Owners.{OneOwner}
 use Rattle.thr_laws.specs.CancelLaw.{CancelLaw}
 use Rattle.thr_laws.specs.CallsOnce.{CallsOnce}
-use Rattle.thr_examples.specs.Rows.{row_text}
+use Rattle.thr_examples.specs.OneLine.{text_in_lines}
 use Rattle.thr_examples.specs.Pasted.{script_of, history_text}
 
 -- The history meets the four laws.
@@ -28,11 +28,11 @@ pub record MeetsLaws (s : Script) (entries : List Entry) (stop : Stop) : Type 0 
 
 -- Where the history of so many processors has come to this, it is this history, it is legal and stops so, and it meets the laws.
 -- Script and history are written in one line; the script is canonical.
-pub record Runs (row : String) (workers : ℕ) (past : Past) (history : String) (stop : Stop) : Type 0 where
-  pub script : canon (script_of row) ≡ row_text row
-  pub legal : Legal (script_of row) workers past.entries stop
-  pub text : history_text (script_of row) past.entries stop ≡ row_text history
-  pub laws : MeetsLaws (script_of row) past.entries stop
+pub record Runs (source : String) (workers : ℕ) (past : Past) (history : String) (stop : Stop) : Type 0 where
+  pub script : canon (script_of source) ≡ text_in_lines source
+  pub legal : Legal (script_of source) workers past.entries stop
+  pub text : history_text (script_of source) past.entries stop ≡ text_in_lines history
+  pub laws : MeetsLaws (script_of source) past.entries stop
 
 -- How many events a worked history has at most.
 abbrev pub most_events : ℕ
@@ -44,11 +44,11 @@ past_alone s = alone most_events s (past_of s)
 
 -- On one processor the script has this history, and stops so.
 abbrev pub RunsAlone : String → String → Stop → Type 0
-RunsAlone row history stop = Runs row 1 (past_alone (script_of row)) history stop
+RunsAlone source history stop = Runs source 1 (past_alone (script_of source)) history stop
 
 -- By these events of so many processors the script has this history, and stops so.
 abbrev pub RunsBy : String → ℕ → List Event → String → Stop → Type 0
-RunsBy row workers events history stop = Runs row workers (past_by (script_of row) workers events) history stop
+RunsBy source workers events history stop = Runs source workers (past_by (script_of source) workers events) history stop
 
 -- ---- what threads say
 
@@ -63,8 +63,8 @@ said (e ∷ entries) = said_by e.who e.what (said entries)
 
 -- By these events of so many processors the script has a history in which threads say this. It is legal and stops so, and it meets
 -- the laws. This is for histories that are too long to be written out.
-pub record SaysBy (row : String) (workers : ℕ) (events : List Event) (says : List (ℕ × ℤ)) (stop : Stop) : Type 0 where
-  pub script : canon (script_of row) ≡ row_text row
-  pub legal : Legal (script_of row) workers (past_by (script_of row) workers events).entries stop
-  pub said_then : said (past_by (script_of row) workers events).entries ≡ says
-  pub laws : MeetsLaws (script_of row) (past_by (script_of row) workers events).entries stop
+pub record SaysBy (source : String) (workers : ℕ) (events : List Event) (says : List (ℕ × ℤ)) (stop : Stop) : Type 0 where
+  pub script : canon (script_of source) ≡ text_in_lines source
+  pub legal : Legal (script_of source) workers (past_by (script_of source) workers events).entries stop
+  pub said_then : said (past_by (script_of source) workers events).entries ≡ says
+  pub laws : MeetsLaws (script_of source) (past_by (script_of source) workers events).entries stop

@@ -1,12 +1,12 @@
 use Rattle.std.proofs.Common.{refl, arith}
 use Rattle.thr_examples.specs.Words.{example_words}
 use Rattle.thr_examples.specs.Scripts as scripts
-use Rattle.thr_examples.proofs.Readings.{row_reads}
+use Rattle.thr_examples.proofs.Readings.{source_reads}
 use Rattle.thr_examples.proofs.scripts.buffer.Goals as goal
 
 pub returns : goal.returns
 unfolding example_words
-returns c = row_reads scripts.buffer (record {
+returns c = source_reads scripts.buffer (record {
   canonical = refl;
   same = refl;
   plain = refl;

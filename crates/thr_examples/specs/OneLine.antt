@@ -19,9 +19,9 @@ lines_between [] = [] ∷ []
 lines_between (b ∷ bs) = with_byte b (lines_between bs)
 
 -- The lines of such a text.
-abbrev pub row_lines : String → List (List ℕ)
-row_lines row = lines_between (codes row)
+abbrev pub in_lines : String → List (List ℕ)
+in_lines source = lines_between (codes source)
 
 -- The text that it stands for, each line with its LF.
-abbrev pub row_text : String → List ℕ
-row_text row = joined (map (λ l. l ++ 10 ∷ []) (row_lines row))
+abbrev pub text_in_lines : String → List ℕ
+text_in_lines source = joined (map (λ l. l ++ 10 ∷ []) (in_lines source))
