@@ -17,7 +17,7 @@ use Rattle.thr_syntax.specs.declared.tree.Stmt.TheOpen.{Stmt-F, Clause-F}
 use Rattle.thr_syntax.specs.declared.tree.Stmt.TheOpen as one_stmt
 use Rattle.thr_syntax.specs.declared.tree.Stmt.TheVariants as stmts
 use Rattle.thr_syntax.specs.Computing.{tree_words}
-use Rattle.thr_syntax.specs.Folds.{each_expr, each_stmt, each_row, each_clauses, each_else}
+use Rattle.thr_syntax.specs.Folds.{each_expr, each_stmt, each_row, each_clauses, each_else, stmts_in, clauses_in}
 
 module _ {A : Type 0} (step : Expr-F A → A) where
   -- At each variant.
@@ -238,3 +238,15 @@ module _ {A B : Type 0} (step : Stmt-F A B → A) (clause_step : Clause-F A B �
 pub ruleset each_expr_laws = (each_expr-Num, each_expr-Var, each_expr-Me, each_expr-Err, each_expr-Two, each_expr-Not, each_expr-GetStatus, each_expr-Matches)
 
 pub ruleset each_stmt_laws = (each_stmt-Set, each_stmt-Say, each_stmt-If, each_stmt-While, each_stmt-TryCatch, each_stmt-TryFinally, each_stmt-Raise, each_stmt-Reraise, each_stmt-Call, each_stmt-Return, each_stmt-Exit, each_stmt-Dce)
+
+-- ---- bodies as lists
+
+pub stmts_in-hidden : (body : List Stmt) → stmts_in (hidden-the_row-Stmt-0 body) ≡ body
+unfolding tree_words
+stmts_in-hidden [] = refl
+stmts_in-hidden (s ∷ body) = ap (λ (xs : List Stmt). s ∷ xs) (stmts_in-hidden body)
+
+pub clauses_in-hidden : (clauses : List Clause) → clauses_in (hidden-the_row-Clause-1 clauses) ≡ clauses
+unfolding tree_words
+clauses_in-hidden [] = refl
+clauses_in-hidden (c ∷ clauses) = λ i. record { names = c.names; body = stmts_in-hidden c.body i } ∷ clauses_in-hidden clauses i

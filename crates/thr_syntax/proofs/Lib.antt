@@ -2,3 +2,4 @@ pub mod FoldLaws
 pub mod SharedLaws
 pub mod TreeInduction
 pub mod LineLaws
+pub mod Crossing

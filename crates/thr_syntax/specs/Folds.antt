@@ -3,6 +3,7 @@ use Rattle.std.specs.Prelude.{List, [], ◌∷◌, Option, Some, None}
 use Rattle.thr_syntax.specs.declared.expr.Expr.{Expr, Num, Var, Me, Err, Two', Not', GetStatus, Matches, end_of-Expr, more_of-Expr}
 use Rattle.thr_syntax.specs.declared.expr.Expr.TheOpen.{Expr-F}
 use Rattle.thr_syntax.specs.declared.expr.Expr.TheOpen as one_expr
+use Rattle.thr_syntax.specs.declared.tree.Clause.{Clause}
 use Rattle.thr_syntax.specs.declared.tree.Stmt.{Stmt, Set, Say, If', While', TryCatch', TryFinally', Raise, Reraise, Call, Return, Exit, Dce, Row_of-Stmt, end_of-Stmt, more_of-Stmt, Held-Stmt-If-2, None', Some', Row_of-Clause, end_of-Clause, more_of-Clause}
 use Rattle.thr_syntax.specs.declared.tree.Stmt.TheOpen.{Stmt-F, Clause-F}
 use Rattle.thr_syntax.specs.declared.tree.Stmt.TheOpen as one_stmt
@@ -48,3 +49,16 @@ module _ {A B : Type 0} (step : Stmt-F A B → A) (clause_step : Clause-F A B �
     pub each_else : Held-Stmt-If-2 → Option (List A)
     each_else None' = None
     each_else (Some' x body) = Some (each_row body)
+
+-- ---- bodies as lists
+
+abbrev mutual
+  -- The statements of a body, in their order.
+  pub stmts_in : {n : _} → Row_of-Stmt n → List Stmt
+  stmts_in end_of-Stmt = []
+  stmts_in (more_of-Stmt s body) = s ∷ stmts_in body
+
+  -- The clauses of a try, in their order.
+  pub clauses_in : {n : _} → Row_of-Clause n → List Clause
+  clauses_in end_of-Clause = []
+  clauses_in (more_of-Clause names x body clauses) = record { names = names; body = stmts_in body } ∷ clauses_in clauses

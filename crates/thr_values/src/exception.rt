@@ -26,3 +26,26 @@ impl Exc {
         }
     }
 }
+
+// ---- built-in exceptions, which are the first ten names of each script (docs/script.md, "Names")
+
+/// A cancel that is delivered.
+pub const CANCEL_E: Exc = Exc::Address(NameId(0));
+/// EINVAL, where the interface is `exc`.
+pub const BADPARAM_E: Exc = Exc::Address(NameId(1));
+/// EPERM and EDEADLK.
+pub const USE_ERROR_E: Exc = Exc::Address(NameId(2));
+/// ESRCH.
+pub const EXISTENCE_E: Exc = Exc::Address(NameId(3));
+/// EBUSY.
+pub const IN_USE_E: Exc = Exc::Address(NameId(4));
+/// EAGAIN.
+pub const EXHAUST_E: Exc = Exc::Address(NameId(5));
+/// EPIPE.
+pub const PIPE_E: Exc = Exc::Address(NameId(6));
+/// A result that doesn't fit 64 bits.
+pub const INTOVF_E: Exc = Exc::Address(NameId(7));
+/// A division by 0.
+pub const INTDIV_E: Exc = Exc::Address(NameId(8));
+/// A frame that doesn't fit the stack.
+pub const STACKOVF_E: Exc = Exc::Address(NameId(9));

@@ -3,8 +3,7 @@
 ghost use Rattle.std.specs.Prelude.{◌≡◌};
 ghost use Rattle.thr_values.specs.Replies.{errno_of, error_exc_of};
 
-use crate::exception::Exc;
-use crate::number::NameId;
+use crate::exception::{BADPARAM_E, EXHAUST_E, EXISTENCE_E, Exc, IN_USE_E, PIPE_E, USE_ERROR_E};
 
 /// The kind of a mutex, which says what a second lock by its owner does (docs/machine.md, "Mutexes").
 #[derive(Clone, Copy, Debug, PartialEq, Eq)]
@@ -62,12 +61,12 @@ pub fn error_exc(reply: &Reply) -> Option<Exc>
     ensures { result ≡ error_exc_of reply.now }
 {
     match reply {
-        Reply::Einval => Some(Exc::Address(NameId(1))),
-        Reply::Eperm | Reply::Edeadlk => Some(Exc::Address(NameId(2))),
-        Reply::Esrch => Some(Exc::Address(NameId(3))),
-        Reply::Ebusy => Some(Exc::Address(NameId(4))),
-        Reply::Eagain => Some(Exc::Address(NameId(5))),
-        Reply::Epipe => Some(Exc::Address(NameId(6))),
+        Reply::Einval => Some(BADPARAM_E),
+        Reply::Eperm | Reply::Edeadlk => Some(USE_ERROR_E),
+        Reply::Esrch => Some(EXISTENCE_E),
+        Reply::Ebusy => Some(IN_USE_E),
+        Reply::Eagain => Some(EXHAUST_E),
+        Reply::Epipe => Some(PIPE_E),
         _ => None,
     }
 }
