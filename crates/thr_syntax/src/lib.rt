@@ -8,6 +8,4 @@ pub mod form;
 pub mod journal;
 pub mod laws;
 pub mod shared;
-#[cfg(test)]
-mod tests;
 pub mod tree;

@@ -1,12 +1,12 @@
 //! That memory is found for a copy, which no clause says.
 
-use crate::copy::copy_script;
-use crate::dce::DceCall;
-use crate::expr::{Expr, Op, Var};
-use crate::tree::{Clause, Item, Routine, Script, Stmt};
 use sqlite_items::{Boxed, Items};
 use std::alloc::Global;
 use std::test::Fail;
+use thr_syntax::copy::copy_script;
+use thr_syntax::dce::DceCall;
+use thr_syntax::expr::{Expr, Op, Var};
+use thr_syntax::tree::{Clause, Item, Routine, Script, Stmt};
 use thr_values::name::Name;
 use thr_values::number::NameId;
 

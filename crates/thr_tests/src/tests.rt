@@ -1,0 +1,3 @@
+//! By crate.
+
+mod copies;
