@@ -70,6 +70,7 @@ impl Open {
     pub fn pop(&mut self) -> Option<Slot>
         ensures none { IfNone result (self.old ≡ []) }
         ensures some { IfSome result (λ slot. self.old ≡ slot ∷ self.new) }
+        ensures same { IfNone result (self.new ≡ self.old) }
     {
         self.stack.pop()
     }
