@@ -22,6 +22,7 @@ use Rattle.thr_remainder.specs.Calls.{shape_of, arguments}
 use Rattle.thr_remainder.specs.Starts.{line_in, line_of_next, raised, delivered, begins_destructor}
 use Rattle.thr_remainder.specs.Steps.{shared_step, written}
 use Rattle.thr_remainder.specs.Replies.{Values, asked, replied}
+use Rattle.thr_remainder.specs.Runs.{Halt, Delivers, Shares, Undoes, Completes, Ends, Pauses, Run, run_of, most_steps}
 use Rattle.thr_parts.specs.declared.row.RowId.TheVariants as row
 use Rattle.thr_parts.specs.declared.row.Seat.{Seat}
 use Rattle.thr_parts.specs.Tables.{Table, none, get, at, put, cut, IsCanonical}
@@ -43,7 +44,6 @@ use Rattle.thr_laws.specs.CallsOnce.{CallsOnce, ends_answered, waits, is_of_line
 use Rattle.thr_laws.proofs.ReadingLaws.{and_both, AllLines}
 use Rattle.thr_model.specs.States.{State, nothing_left, Debt, Return, Delivery, Running, opening, remainder_of, setting_of, debt_of, rank_of, shared_values, all_owe}
 use Rattle.thr_model.specs.Calls.{Gifts, Answered, answered}
-use Rattle.thr_model.specs.Runs.{Halt, Delivers, Shares, Undoes, Completes, Ends, Pauses, Run, run_of, most_steps}
 use Rattle.thr_model.specs.Turns.{Made, thread_line, gift_lines, runs_routine, runs_if, after_reply, called, written_to, shared_made, end_made, begun_by, begun_at, debt_made, halt_made, run_made, turn_by, kept, is_fifo_in, turn_of, handed_on}
 use Rattle.thr_model.specs.Events.{dispatch_made, clock_to, clock_of, made_by}
 use Rattle.thr_model.specs.Histories.{History, opened, then_event, Legal, StopsWith, stop_at, stop_with, goes_on, limit_of}
@@ -69,7 +69,7 @@ use Rattle.thr_syntax.specs.Lines.{lines_of}
 use Rattle.thr_answers.specs.Standing.{StandsIn}
 use Rattle.thr_answers.specs.Owing.{delivers, line_at}
 use Rattle.thr_answers.proofs.StepsStand.{IsSpot, IsPlace, place_stands}
-use Rattle.thr_answers.proofs.HistoriesStand.{run_stands, remainder_has, left-stands}
+use Rattle.thr_answers.proofs.HistoriesStand.{run_stands, remainder_stands, left-stands}
 use Rattle.thr_answers.proofs.CallLines.{AreValues, asked_values, call_of_line}
 use Rattle.thr_answers.proofs.DebtsKept.{NoNew, nobody, either_left, only_left, put_no_new, same_no_new, all_no_new, due_no_new, LeavesLeft, put_left, answered_no_new, answered_left}
 use Rattle.thr_answers.proofs.QuietLines.{AreQuiet, quiet_append, shared_is_quiet, replied_is_quiet, HaltFits, RunFits, run_fits}
@@ -396,7 +396,7 @@ by_turn s st t k None e run order sorted has i =
     let calls : IsCalling st t.0 = calls_calmly st t.0 run order sorted e in
     let g : Setting = setting_of s st t in
     run_turn s st t k g (run_of most_steps g (mode_at st.threads t) (remainder_of st t)) run calls order (i.waiting ∙ ap is_waiting calls.caller.calm)
-    (run_stands g most_steps (mode_at st.threads t) (remainder_of st t) (remainder_has g st t has)) (run_fits most_steps g (mode_at st.threads t) (remainder_of st t))
+    (run_stands g most_steps (mode_at st.threads t) (remainder_of st t) (remainder_stands g.script st t has)) (run_fits most_steps g (mode_at st.threads t) (remainder_of st t))
 
 kept_turn : (s : Script) (st : State) (t : Tid) (k : Known) (made : Made) → TurnMakes s st t k made → TurnMakes s st t k (kept t made)
 kept_turn s st t k made m = record {

@@ -19,11 +19,10 @@ use Rattle.thr_remainder.specs.Replies.{raised_if, replied_by, replied_at, repli
 use Rattle.thr_remainder.specs.Calls.{is_point, shape_of}
 use Rattle.thr_remainder.specs.Next.{Next, next, next_by, next_outward, next_end, next_shared, next_at}
 use Rattle.thr_remainder.specs.Next as step
-use Rattle.thr_parts.specs.Cancels.{is_deliverable}
+use Rattle.thr_remainder.specs.Runs.{is_deliverable, Halt, Delivers, Shares, Undoes, Completes, Ends, Pauses, Run, or_delivers, goes_on, quiet_or_delivers, is_asynchronous, at_next, outward_move, run_of}
+use Rattle.thr_remainder.specs.Runs as runs
 use Rattle.thr_laws.specs.Lines.{is_waiting_call, is_return}
 use Rattle.thr_laws.proofs.ReadingLaws.{AllLines}
-use Rattle.thr_model.specs.Runs.{Halt, Delivers, Shares, Undoes, Completes, Ends, Pauses, Run, or_delivers, goes_on, quiet_or_delivers, is_asynchronous, at_next, outward_move, run_of}
-use Rattle.thr_model.specs.Runs as runs
 
 -- The line is neither a call that waits nor a return.
 pub record IsQuiet (w : What) : Type 0 where

@@ -30,11 +30,11 @@ use Rattle.thr_parts.specs.declared.thread.Attr.{Attr}
 use Rattle.thr_parts.specs.declared.wait.Wait.{Wait}
 use Rattle.thr_parts.specs.Tables.{Table, get, put, put_if, cut, cut_if, IsCanonical}
 use Rattle.thr_parts.specs.Replies.{is_value, is_blocks}
-use Rattle.thr_parts.specs.Rows.{Rows, thread, seat_of, is_running, row_in, row_at, best, best_of, standing}
+use Rattle.thr_parts.specs.Rows.{Rows, thread, most, seat_of, is_running, row_in, row_at, best, best_of, standing}
 use Rattle.thr_parts.specs.Moves.{take_out_if, leave, free_row, Freed}
 use Rattle.thr_parts.specs.Dispatch.{runs_on, running, next_for, with_processor, dispatch, whole_slice, keeps, as_kept, gives_way, a_turn_later}
 use Rattle.thr_parts.specs.Threads as threads
-use Rattle.thr_parts.specs.Threads.{Threads, ThreadsReply, natural, rank_at, attr_at, create_reply, most_records}
+use Rattle.thr_parts.specs.Threads.{Threads, ThreadsReply, natural, rank_at, attr_at, create_reply}
 use Rattle.thr_parts.specs.OnceBlocks as once
 use Rattle.thr_parts.proofs.BestLaws.{found}
 use Rattle.thr_parts.proofs.RowLaws.{best_stands, canonical_standing, has_seat, row_of_seat}
@@ -168,7 +168,7 @@ value_or_again false v = refl
 
 created_not : (ths : Threads) (o : Option Attr) → is_blocks (create_reply ths o) ≡ false
 created_not ths None = refl
-created_not ths (Some a) = value_or_again (nat_lt (length ths.records) most_records) (pos ths.next)
+created_not ths (Some a) = value_or_again (nat_lt (length ths.records) most) (pos ths.next)
 
 -- ---- calls
 

@@ -14,7 +14,6 @@ use Rattle.thr_model.specs.Histories.{History}
 use Rattle.thr_remainder.specs.Remainders.{Setting, Remainder, place_in, act_at}
 use Rattle.thr_parts.specs.Cancels.{deliver}
 use Rattle.thr_model.specs.States.{remainder_of, setting_of}
-use Rattle.thr_model.specs.Runs.{Halt, Delivers, Shares, Undoes, Completes, Ends, Pauses, Run, run_of, most_steps}
 use Rattle.thr_cancels.proofs.Agreement.{head_and}
 use Rattle.std.specs.List.{list_all}
 use Rattle.thr_syntax.specs.Shared.{is_shared}
@@ -29,11 +28,11 @@ use Rattle.thr_remainder.specs.Starts.{still}
 use Rattle.thr_values.specs.declared.history.What.{What}
 use Rattle.thr_remainder.specs.Calls.{is_point, shape_of}
 use Rattle.thr_cancels.specs.Delivering.{AreCarried, HaltsAtOnce, IsAtOnce}
-use Rattle.thr_cancels.proofs.NumbersKept.{remainder_has, numbers-given}
+use Rattle.thr_cancels.proofs.NumbersKept.{remainder_numbered, numbers-given}
 use Rattle.thr_remainder.specs.Places.{Left}
-use Rattle.thr_model.specs.Runs as runs
-use Rattle.thr_parts.specs.Cancels.{is_deliverable}
-use Rattle.thr_model.specs.Runs.{or_delivers, at_next, outward_move}
+use Rattle.thr_remainder.specs.Runs.{is_deliverable, Halt, Delivers, Shares, Undoes, Completes, Ends, Pauses, Run, run_of, most_steps}
+use Rattle.thr_remainder.specs.Runs as runs
+use Rattle.thr_remainder.specs.Runs.{or_delivers, at_next, outward_move}
 use Rattle.thr_laws.specs.CancelLaw.{is_carried}
 use Rattle.thr_cancels.proofs.Numbers.{HasNumbers, IsUnwinding, IsStopped, IsOutward, outward_out, is_once}
 
@@ -175,4 +174,4 @@ run_at_once n g mode r e h =
 
 pub turn_at_once : {s : Script} {n : ℕ} {st : State} {events : List Event} {entries : List Entry} {turns : ℕ} → History s n st events entries turns → (t : Tid)
     → is_deliverable (cancels.mode_at st.threads t) false ≡ true → IsAtOnce (run_of most_steps (setting_of s st t) (cancels.mode_at st.threads t) (remainder_of st t))
-turn_at_once {s} {n} {st} h t e = run_at_once 63 (setting_of s st t) (cancels.mode_at st.threads t) (remainder_of st t) e (remainder_has st t (numbers-given h))
+turn_at_once {s} {n} {st} h t e = run_at_once 63 (setting_of s st t) (cancels.mode_at st.threads t) (remainder_of st t) e (remainder_numbered s st t (numbers-given h))

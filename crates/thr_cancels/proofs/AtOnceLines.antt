@@ -21,7 +21,6 @@ use Rattle.thr_remainder.specs.Calls.{shape_of, arguments}
 use Rattle.thr_remainder.specs.Remainders.{Setting, Remainder, Move}
 use Rattle.thr_remainder.specs.Replies.{replied}
 use Rattle.thr_parts.specs.Cancels as cancels
-use Rattle.thr_parts.specs.Cancels.{is_deliverable}
 use Rattle.thr_laws.specs.Lines.{implies, fits, own_line, line_but_gift, is_delivery, is_some_line}
 use Rattle.thr_laws.specs.Known.{Known, general_after, asynchronous_after, known_with, known_after, cancel_of, cancel_by, reply_if, is_to_deliver}
 use Rattle.thr_laws.specs.CancelLaw.{is_owed_or_outward, is_of_return, is_of_answer, can_deliver, delivers_at_once}

@@ -20,6 +20,7 @@ use Rattle.thr_remainder.specs.Remainders.{Setting, Remainder, place_in, act_at}
 use Rattle.thr_remainder.specs.Starts.{line_of_next, raised, delivered, begins_destructor}
 use Rattle.thr_remainder.specs.Steps.{shared_step}
 use Rattle.thr_remainder.specs.Replies.{Values, asked, replied}
+use Rattle.thr_remainder.specs.Runs.{is_deliverable, Halt, Delivers, Shares, Undoes, Completes, Ends, Pauses, Run, run_of, most_steps}
 use Rattle.thr_parts.specs.declared.row.Seat.{Seat}
 use Rattle.thr_parts.specs.declared.wait.Wait.{Wait}
 use Rattle.thr_parts.specs.Tables.{get}
@@ -27,7 +28,6 @@ use Rattle.thr_parts.specs.Dispatch.{dispatch, running, some_can_run}
 use Rattle.thr_parts.specs.Expiry.{earliest}
 use Rattle.thr_parts.specs.Threads.{record_at}
 use Rattle.thr_parts.specs.Cancels as cancels
-use Rattle.thr_parts.specs.Cancels.{is_deliverable}
 use Rattle.thr_parts.specs.Keys.{DestructorCall, NextDestructor, next_destructor}
 use Rattle.thr_laws.specs.Lines.{line_but_gift, is_some_line}
 use Rattle.thr_laws.specs.Known.{Known, known, known_at_first, known_after}
@@ -36,14 +36,13 @@ use Rattle.thr_laws.specs.CancelLaw.{is_carried, is_owed_or_outward, delivers_at
 use Rattle.thr_laws.proofs.ReadingLaws.{both, and_both}
 use Rattle.thr_model.specs.States.{State, Debt, Return, Delivery, Running, remainder_of, setting_of, debt_of, shared_values}
 use Rattle.thr_model.specs.Calls.{Answered, answered}
-use Rattle.thr_model.specs.Runs.{Halt, Delivers, Shares, Undoes, Completes, Ends, Pauses, Run, run_of, most_steps}
 use Rattle.thr_model.specs.Turns.{Made, thread_line, gift_lines, after_reply, called, shared_made, end_made, begun_at, debt_made, halt_made, run_made, turn_by, turn_of}
 use Rattle.thr_model.specs.Events.{run_line, dispatch_made, clock_to, clock_of, made_by}
 use Rattle.thr_model.specs.Histories.{History, opened, then_event}
 use Rattle.thr_model.proofs.RowsKept.{history_canonical}
 use Rattle.thr_answers.specs.Standing.{StandsIn}
 use Rattle.thr_answers.specs.Statuses.{status, status_of, is_waiting}
-use Rattle.thr_answers.proofs.HistoriesStand.{remainder_has, left-stands}
+use Rattle.thr_answers.proofs.HistoriesStand.{remainder_stands, left-stands}
 use Rattle.thr_answers.proofs.StatusTurns.{HasRun, has_run, run_wait}
 use Rattle.thr_answers.proofs.AnswerTurns.{Agrees, agrees}
 use Rattle.thr_answers.proofs.AnswerReading.{IsSilent, gifts_silent, others_silent, silent_append}
@@ -184,7 +183,7 @@ module _ {s : Script} {n : ℕ} {st : State} {events : List Event} {entries : Li
   own_turn t (Some d) e run =
       let a : Agrees s st entries = agrees h in
       let w : is_waiting (status_of st t.0) ≡ true = owing_waits (get st.debts t.0) (get st.rows.seats t.0) (get st.conds.waits t.0) d e (run_wait st t.0 run a.order) in
-      debt_pass s _ t (known t.0 entries) (setting_of s st t) (remainder_of st t) d refl (remainder_has (setting_of s st t) st t (left-stands h)) (a.stands t.0 w)
+      debt_pass s _ t (known t.0 entries) (setting_of s st t) (remainder_of st t) d refl (remainder_stands s st t (left-stands h)) (a.stands t.0 w)
   own_turn t None e run =
       let g : Setting = setting_of s st t in
       let mode : Mode = cancels.mode_at st.threads t in

@@ -60,6 +60,7 @@ use Rattle.thr_cancels.proofs.InnerLines.{replied_inner, begun_inner, HaltFits, 
 use Rattle.thr_cancels.proofs.Owed.{all_owes, put_owes, best_free, row_free}
 use Rattle.thr_remainder.specs.Remainders.{Setting, Remainder, place_in, act_at}
 use Rattle.thr_remainder.specs.Replies.{replied}
+use Rattle.thr_remainder.specs.Runs.{Halt, Delivers, Shares, Undoes, Completes, Ends, Pauses, Run, run_of, most_steps}
 use Rattle.thr_parts.specs.Moves.{take_out_if, free_row, make_ready}
 use Rattle.thr_parts.specs.Tables.{Table, none, cut}
 use Rattle.thr_parts.specs.Dispatch.{running, runs_on}
@@ -73,7 +74,6 @@ use Rattle.thr_parts.specs.declared.row.Place.TheVariants.{Runs, Stands}
 use Rattle.thr_parts.proofs.TableLaws.{get_none, get_put, get_cut}
 use Rattle.thr_parts.proofs.RunningLaws.{HasProcessor, running_seat}
 use Rattle.thr_model.specs.States.{opening, Return, Running, remainder_of, setting_of, debt_of}
-use Rattle.thr_model.specs.Runs.{Halt, Delivers, Shares, Undoes, Completes, Ends, Pauses, Run, run_of, most_steps}
 use Rattle.thr_model.specs.Turns.{Made, handed_on, freed, thread_line, end_made, debt_made, halt_made, turn_by, kept, is_fifo_in, turn_of, begun_at}
 use Rattle.thr_cancels.proofs.Agreement.{Knows, Told, told_then, told_append, told_away, told_inner, away_line, away_inner, is_cancelled, cancelled_alive, head_and, passes_others, Matches, KnownBy, KnowsOf, IsFine, IsPassed, IsRunning}
 

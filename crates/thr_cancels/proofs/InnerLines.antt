@@ -26,9 +26,8 @@ use Rattle.thr_remainder.specs.Outward.{Meeting, Drops, Begins, Undoes, Loses, c
 use Rattle.thr_remainder.specs.Next.{Next, GoesOutward, UndoesOnce, EndsThread, EndsOnce, StepsQuietly, next_outward, outward_or_undone, next_end, next_shared, next_at, next_by, next}
 use Rattle.thr_remainder.specs.Next as step
 use Rattle.thr_remainder.specs.Replies.{raised_by, raised_if, replied_by, replied_at, replied}
-use Rattle.thr_parts.specs.Cancels.{is_deliverable}
-use Rattle.thr_model.specs.Runs.{Halt, Delivers, Shares, Completes, Ends, Pauses, Run, or_delivers, goes_on, is_asynchronous, quiet_or_delivers, at_next, outward_move, run_of}
-use Rattle.thr_model.specs.Runs as runs
+use Rattle.thr_remainder.specs.Runs.{is_deliverable, Halt, Delivers, Shares, Completes, Ends, Pauses, Run, or_delivers, goes_on, is_asynchronous, quiet_or_delivers, at_next, outward_move, run_of}
+use Rattle.thr_remainder.specs.Runs as runs
 use Rattle.thr_model.specs.Turns.{runs_routine, begun_by, begun_at}
 
 -- The line is one of a thread's own steps: no call, no delivery, no end and no gift.

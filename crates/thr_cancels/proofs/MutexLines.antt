@@ -29,6 +29,7 @@ use Rattle.thr_remainder.specs.Starts.{raised, delivered, begins_destructor}
 use Rattle.thr_remainder.specs.Steps.{shared_step}
 use Rattle.thr_remainder.specs.Replies.{Values, asked, raised_if, replied_by, replied_at, replied}
 use Rattle.thr_remainder.specs.Replies as replies
+use Rattle.thr_remainder.specs.Runs.{Halt, Delivers, Shares, Undoes, Completes, Ends, Pauses, Run, run_of, most_steps}
 use Rattle.thr_parts.specs.Tables.{get}
 use Rattle.thr_parts.specs.Rows.{row_at}
 use Rattle.thr_parts.specs.Dispatch.{dispatch, running, some_can_run}
@@ -44,7 +45,6 @@ use Rattle.thr_laws.specs.CancelLaw.{gives_up, is_wait_with, has_its_mutex, Both
 use Rattle.thr_laws.proofs.ReadingLaws.{both, and_both, AllLines, fits_keeping, fits_always, implied_by_false}
 use Rattle.thr_model.specs.States.{State, Debt, Return, Delivery, Running, remainder_of, setting_of, debt_of, shared_values}
 use Rattle.thr_model.specs.Calls.{Answered, answered}
-use Rattle.thr_model.specs.Runs.{Halt, Delivers, Shares, Undoes, Completes, Ends, Pauses, Run, run_of, most_steps}
 use Rattle.thr_model.specs.Turns.{Made, thread_line, gift_lines, runs_routine, runs_if, after_reply, called, shared_made, end_made, begun_by, begun_at, debt_made, halt_made, run_made, turn_by, turn_of}
 use Rattle.thr_model.specs.Events.{run_line, dispatch_made, clock_to, clock_of, made_by}
 use Rattle.thr_model.specs.Histories.{History, opened, then_event, Legal}

@@ -1,306 +1,47 @@
 -- In every history unwindings have numbers that were given.
-use Rattle.std.proofs.Common.{◌≡◌, ℕ, zero, suc, ℤ, Bool, true, false, List, [], ◌∷◌, Option, Some, None, Ok, Err, refl, sym, ap, subst}
-use Rattle.std.specs.Prelude.{if◌then◌else◌, nat_lt}
-use Rattle.std.specs.Option.{option_map, unwrap_or}
-use Rattle.thr_values.specs.declared.number.NameId.{NameId}
+use Rattle.std.proofs.Common.{◌≡◌, ℕ, List, ◌∷◌, Some, subst}
 use Rattle.thr_values.specs.declared.number.Tid.{Tid}
 use Rattle.thr_values.specs.declared.event.Event.{Event}
-use Rattle.thr_values.specs.declared.event.Event.TheVariants as event
-use Rattle.thr_values.specs.declared.reply.Effect.TheVariants as effect
-use Rattle.thr_values.specs.declared.reply.Reply.{Reply}
-use Rattle.thr_values.specs.declared.reply.Reply.TheVariants as reply
 use Rattle.thr_values.specs.declared.history.Entry.{Entry}
-use Rattle.thr_values.specs.declared.scheduling.Mode.{Mode}
-use Rattle.thr_syntax.specs.Shared.{is_shared}
-use Rattle.thr_syntax.specs.declared.dce.DceCall.{DceCall}
-use Rattle.thr_syntax.specs.declared.dce.DceCall.TheVariants as dce
 use Rattle.thr_syntax.specs.declared.tree.Script.{Script}
 use Rattle.thr_remainder.specs.declared.unwinding.Unwinding.{Unwinding}
-use Rattle.thr_remainder.specs.Acts.{Act, Asks}
-use Rattle.thr_remainder.specs.Remainders.{Role, Doing, Item, Setting, Remainder, Move, Spot, Place, Nowhere, AtEnd, At, place_in, act_at}
-use Rattle.thr_remainder.specs.Calls.{is_point, shape_of}
-use Rattle.thr_remainder.specs.Starts.{fresh}
-use Rattle.thr_remainder.specs.Steps.{quiet, shared_step, written}
-use Rattle.thr_remainder.specs.Outward.{outward}
-use Rattle.thr_remainder.specs.Replies.{Values, asked, replied}
-use Rattle.thr_remainder.specs.Next.{Next, next, next_by, next_outward, next_end, next_shared, next_at}
-use Rattle.thr_remainder.specs.Next as step
-use Rattle.thr_cancels.proofs.Numbers.{AreItems, IsUnwinding, HasNumbers, quiet_keeps, shared_keeps, outward_out, once_keeps, destructor_keeps, raised_keeps, delivered_keeps, replied_keeps, fresh_has}
-use Rattle.thr_parts.specs.Tables.{none, get, keep_if}
-use Rattle.thr_parts.specs.Replies.{is_value}
-use Rattle.thr_parts.specs.Rows.{Rows, thread}
-use Rattle.thr_parts.specs.Dispatch.{Dispatched, running, some_can_run, dispatch}
-use Rattle.thr_parts.specs.Threads as threads
-use Rattle.thr_parts.specs.Threads.{ThreadsReply, natural}
-use Rattle.thr_parts.specs.Cancels.{mode_at, is_deliverable, waits_at_point}
-use Rattle.thr_parts.specs.Cancels as cancels
-use Rattle.thr_parts.specs.Locking.{unlock}
-use Rattle.thr_parts.specs.Conditions.{wait, timedwait}
-use Rattle.thr_parts.specs.Waking.{Signalled, signal}
-use Rattle.thr_parts.specs.Expiry.{earliest}
-use Rattle.thr_parts.specs.Keys.{DestructorCall, NextDestructor, next_destructor}
-use Rattle.thr_parts.specs.OnceBlocks as once
-use Rattle.thr_parts.specs.Pipes.{read, write}
-use Rattle.thr_parts.proofs.TableLaws.{at_get}
-use Rattle.thr_parts.proofs.EachLaws.{Each, IfThere, each_none, each_put, each_put_if, each_cut, if_there}
-use Rattle.thr_model.specs.States.{State, Debt, Return, Delivery, Running, nothing_left, rank_of, remainder_of, setting_of, debt_of, shared_values}
-use Rattle.thr_model.specs.Calls.{Answered, answered, cancelled, given_state, signals_one, woken_state, first}
-use Rattle.thr_model.specs.Runs.{Halt, Delivers, Shares, Undoes, Completes, Ends, Pauses, Run, or_delivers, goes_on, quiet_or_delivers, is_asynchronous, at_next, outward_move, run_of, most_steps}
-use Rattle.thr_model.specs.Turns.{Made, runs_routine, runs_if, after_reply, called, written_to, shared_made, handed_on, end_made, begun_by, begun_at, debt_made, halt_made, turn_by, turn_of}
-use Rattle.thr_model.specs.Events.{dispatch_made, clock_to, clock_of, made_by}
-use Rattle.thr_model.specs.Histories.{History, opened, then_event}
+use Rattle.thr_remainder.specs.Remainders.{Item, Setting, Remainder}
+use Rattle.thr_remainder.specs.Outward.{outward, undone}
+use Rattle.thr_remainder.proofs.StepsKept.{IsKeptBySteps}
+use Rattle.thr_parts.specs.Tables.{get}
+use Rattle.thr_parts.proofs.EachLaws.{Each}
+use Rattle.thr_model.specs.States.{State, remainder_of}
+use Rattle.thr_model.specs.Histories.{History}
+use Rattle.thr_model.proofs.RemaindersKept.{IsKeptByTurns, remainder_has, history_has}
+use Rattle.thr_cancels.proofs.Numbers.{AreItems, IsUnwinding, HasNumbers, IsOutward, quiet_keeps, shared_keeps, outward_out, once_keeps, destructor_keeps, raised_keeps, delivered_keeps, replied_keeps, fresh_has}
 
--- What is left after the step has such numbers.
-abbrev Moves : Next → Type 0
-Moves (step.GoesOutward m) = HasNumbers m.to
-Moves (step.UndoesOnce block m) = HasNumbers m.to
-Moves (step.EndsOnce block m) = HasNumbers m.to
-Moves (step.StepsQuietly m) = HasNumbers m.to
-Moves _ = Unit {0}
+outward_keeps : (g : Setting) (u : Unwinding) (r : Remainder) → r.under_way ≡ Some u → HasNumbers r → HasNumbers (outward g u r).to
+outward_keeps g u r e h = let out : IsOutward (outward g u r) = outward_out g u r (subst IsUnwinding e h.under) h in out.numbers
 
-role_moves : (role : Role) (u : Unwinding) (outer : List Item) (r : Remainder) (m : Move) → HasNumbers m.to → AreItems outer → IsUnwinding r.under_way → Moves (step.outward_or_undone role u outer r m)
-role_moves (Doing scope block routine) u outer r m h i under = record { items = i; under = under }
-role_moves _ u outer r m h i under = h
+undone_keeps : (scope : ℕ) (i : Item) (u : Unwinding) (outer : List Item) (r : Remainder) → r.items ≡ i ∷ outer → HasNumbers r → HasNumbers (undone scope u outer r).to
+undone_keeps scope i u outer r e h = let items : AreItems (i ∷ outer) = subst AreItems e h.items in record { items = items.1; under = h.under }
 
-unwinding_moves : (u : Unwinding) (items : List Item) (r : Remainder) (m : Move) → HasNumbers m.to → AreItems items → IsUnwinding r.under_way → Moves (next_outward u items r m)
-unwinding_moves u [] r m h i under = h
-unwinding_moves u (x ∷ outer) r m h i under = role_moves x.role u outer r m h i.1 under
+numbers_by_steps : IsKeptBySteps (λ s. HasNumbers)
+numbers_by_steps = record {
+  begins = fresh_has;
+  steps = quiet_keeps;
+  shares = shared_keeps;
+  goes = outward_keeps;
+  undoes = λ g scope block routine left u outer r e h. undone_keeps scope _ u outer r e h;
+  replies = replied_keeps;
+  runs = λ g block routine r after asks h more. once_keeps g block routine after more;
+  destroys = destructor_keeps;
+  raises = λ s. raised_keeps;
+  delivers = λ s. delivered_keeps;
+}
 
-end_moves : (role : Role) (outer : List Item) (r : Remainder) (m : Move) → HasNumbers m.to → Moves (next_end role outer r m)
-end_moves (Doing scope block routine) outer r m h = h
-end_moves _ outer r m h = h
+numbers_by_turns : IsKeptByTurns (λ s. HasNumbers)
+numbers_by_turns = record { kept = numbers_by_steps; nothing = λ s. record { items = tt; under = tt } }
 
-point_moves : (b : Bool) (h : Spot) → Moves (if b then step.IsAtPoint h else step.Shares h)
-point_moves true h = tt
-point_moves false h = tt
-
-act_moves : (act : Act) (h : Spot) → Moves (next_shared act h)
-act_moves (Asks call) h = point_moves (is_point (shape_of call).word) h
-act_moves _ h = tt
-
-spot_moves : (b : Bool) (h : Spot) (m : Move) → HasNumbers m.to → Moves (if b then next_shared (act_at h) h else step.StepsQuietly m)
-spot_moves true h m i = act_moves (act_at h) h
-spot_moves false h m i = i
-
-place_moves : (p : Place) (r : Remainder) (m : Move) → HasNumbers m.to → Moves (next_at p r m)
-place_moves Nowhere r m h = tt
-place_moves (AtEnd close role outer) r m h = end_moves role outer r m h
-place_moves (At x) r m h = spot_moves (is_shared x.stmt) x m h
-
-by_moves : (g : Setting) (u : Option Unwinding) (r : Remainder) → IsUnwinding u → HasNumbers r → Moves (next_by g u r)
-by_moves g None r k h = place_moves (place_in r.items) r (quiet g r) (quiet_keeps g r h)
-by_moves g (Some u) r k h = unwinding_moves u r.items r (outward g u r) (outward_out g u r k h).numbers h.items h.under
-
-pub next_moves : (g : Setting) (r : Remainder) → HasNumbers r → Moves (next g r)
-unfolding next
-next_moves g r h = by_moves g r.under_way r h.under h
-
--- ---- the quiet part of a turn
-
-abbrev HaltMoves : Halt → Type 0
-HaltMoves (Undoes block m) = HasNumbers m.to
-HaltMoves (Completes block m) = HasNumbers m.to
-HaltMoves _ = Unit {0}
-
--- What is left after the quiet part has such numbers, and what ends it leaves them so.
-record RunMoves (run : Run) : Type 0 where
-  to : HasNumbers run.to
-  halt : HaltMoves run.halt
-
-abbrev AllMove : (Remainder → Run) → Type 0
-AllMove more = (r : Remainder) → HasNumbers r → RunMoves (more r)
-
-halts_move : (r : Remainder) (halt : Halt) → HasNumbers r → HaltMoves halt → (let run : Run = record { to = r; lines = []; halt = halt } in RunMoves run)
-halts_move r halt h i = record { to = h; halt = i }
-
-delivers_move : (b : Bool) (halt : Halt) → HaltMoves halt → HaltMoves (or_delivers b halt)
-delivers_move true halt h = tt
-delivers_move false halt h = h
-
-goes_move : (b : Bool) (more : Remainder → Run) (m : Move) → AllMove more → HasNumbers m.to → RunMoves (goes_on b more m)
-goes_move true more m all h = record { to = h; halt = tt }
-goes_move false more m all h = let x : RunMoves (more m.to) = all m.to h in record { to = x.to; halt = x.halt }
-
-quiet_move : (b : Bool) (mode : Mode) (more : Remainder → Run) (r : Remainder) (m : Move) → AllMove more → HasNumbers r → HasNumbers m.to → RunMoves (quiet_or_delivers b mode more r m)
-quiet_move true mode more r m all h i = record { to = h; halt = tt }
-quiet_move false mode more r m all h i = goes_move (is_asynchronous mode) more m all i
-
-at_move : (mode : Mode) (more : Remainder → Run) (r : Remainder) (x : Next) → AllMove more → HasNumbers r → Moves x → RunMoves (at_next mode more r x)
-at_move mode more r (step.GoesOutward m) all h i = record { to = h; halt = tt }
-at_move mode more r (step.UndoesOnce block m) all h i = record { to = h; halt = i }
-at_move mode more r step.EndsThread all h i = record { to = h; halt = tt }
-at_move mode more r (step.EndsOnce block m) all h i = record { to = h; halt = delivers_move (is_deliverable mode false) (Completes block m) i }
-at_move mode more r (step.Shares spot) all h i = record { to = h; halt = delivers_move (is_deliverable mode false) (Shares spot) tt }
-at_move mode more r (step.IsAtPoint spot) all h i = record { to = h; halt = delivers_move (is_deliverable mode true) (Shares spot) tt }
-at_move mode more r (step.StepsQuietly m) all h i = quiet_move (is_deliverable mode false) mode more r m all h i
-
-outward_move_has : (x : Next) (r : Remainder) → HasNumbers r → Moves x → HasNumbers (outward_move x r).to
-outward_move_has (step.GoesOutward m) r h i = i
-outward_move_has _ r h i = h
-
-run_moves : (n : ℕ) (g : Setting) (mode : Mode) (r : Remainder) → HasNumbers r → RunMoves (run_of n g mode r)
-unfolding run_of
-run_moves zero g mode r h = record { to = h; halt = tt }
-run_moves (suc n) g mode r h =
-    let out : Move = outward_move (next g r) r in
-    let has : HasNumbers out.to = outward_move_has (next g r) r h (next_moves g r h) in
-    let x : RunMoves (at_next mode (run_of n g mode) out.to (next g out.to)) = at_move mode (run_of n g mode) out.to (next g out.to) (run_moves n g mode) has (next_moves g out.to has) in
-    record { to = x.to; halt = x.halt }
-
--- ---- what is left in all threads
-
-fresh_if : (b : Bool) (x : Remainder) → HasNumbers x → IfThere HasNumbers (keep_if b (Some x))
-fresh_if true x h = h
-fresh_if false x h = tt
-
-have_at : (o : Option Remainder) → IfThere HasNumbers o → HasNumbers (unwrap_or o nothing_left)
-have_at None h = record { items = tt; under = tt }
-have_at (Some r) h = h
-
-pub remainder_has : (st : State) (t : Tid) → Each HasNumbers st.remainders → HasNumbers (remainder_of st t)
-remainder_has st t h = subst HasNumbers (sym (at_get st.remainders t.0 nothing_left)) (have_at (get st.remainders t.0) (if_there HasNumbers st.remainders t.0 (get st.remainders t.0) refl h))
-
-abbrev pub Have : State → Type 0
-Have st = Each HasNumbers st.remainders
-
--- ---- calls
-
-cancelled_have : (st : State) (target : Tid) (o : ThreadsReply) (y : Reply) → Have st → Have (cancelled st target o y).state
-cancelled_have st target o (reply.Effect effect.Wakes) h = h
-cancelled_have st target o (reply.Effect _) h = h
-cancelled_have st target o _ h = h
-
-given_have : (st : State) (rs : Rows) (o : Option Tid) → Have st → Have (given_state st rs o)
-given_have st rs None h = h
-given_have st rs (Some t) h = h
-
-signals_have : (st : State) (o : Signalled) (w : Option (Tid × NameId)) → Have st → Have (signals_one st o w).state
-signals_have st o None h = h
-signals_have st o (Some w) h = h
-
-woken_have : (st : State) (rs : Rows) (y : Reply) (o : Option Tid) → Have st → Have (woken_state st rs y o)
-woken_have st rs y None h = h
-woken_have st rs y (Some t) h = h
-
-answered_have : (s : Script) (st : State) (t : Tid) (call : DceCall) (ns : List ℤ) → Have st → Have (answered s st t call ns).state
-unfolding answered
-answered_have s st t (dce.Create v a routine e) ns h =
-    each_put_if HasNumbers st.remainders st.threads.next _ (fresh_if (is_value (threads.create st.threads t a).reply) (fresh s routine (first ns)) (fresh_has s routine (first ns))) h
-answered_have s st t (dce.Cancel e) ns h =
-    let who : Tid = thread (natural (first ns)) in
-    let o : ThreadsReply = cancels.cancel st.threads (first ns) (waits_at_point st.rows who) in cancelled_have st who o o.reply h
-answered_have s st t (dce.MutexUnlock m) ns h = let o = unlock st.locks st.rows (Some m) t in given_have (record st { locks = o.locks }) o.rows o.given h
-answered_have s st t dce.UnlockGlobalNp ns h = let o = unlock st.locks st.rows None t in given_have (record st { locks = o.locks }) o.rows o.given h
-answered_have s st t (dce.CondWait c m) ns h =
-    let o = wait st.conds st.locks st.rows c m t (rank_of st t) in given_have (record st { conds = o.conds; locks = o.locks }) o.rows o.given h
-answered_have s st t (dce.CondTimedwait c m e) ns h =
-    let o = timedwait st.conds st.locks st.rows c m (first ns) st.clock t (rank_of st t) in given_have (record st { conds = o.conds; locks = o.locks }) o.rows o.given h
-answered_have s st t (dce.CondSignal c) ns h = let o : Signalled = signal st.conds st.rows c in signals_have st o o.waiter h
-answered_have s st t (dce.Read p v w) ns h = let o = read st.pipes st.rows p t (rank_of st t) in woken_have (record st { pipes = o.pipes }) o.rows reply.Done o.relieved h
-answered_have s st t (dce.Write p e) ns h =
-    let o = write st.pipes st.rows p (first ns) t (rank_of st t) in woken_have (record st { pipes = o.pipes }) o.rows (reply.Value (first ns)) o.reader h
-answered_have s st t _ ns h = h
-
--- ---- turns
-
-routine_has : (g : Setting) (call : DceCall) (m : Move) → HasNumbers m.to → HasNumbers (runs_routine g call m).to
-routine_has g (dce.Once block routine) m h = once_keeps g block routine m.to h
-routine_has g _ m h = h
-
-runs_has : (b : Bool) (g : Setting) (call : DceCall) (m : Move) → HasNumbers m.to → HasNumbers (runs_if b g call m).to
-runs_has true g call m h = routine_has g call m h
-runs_has false g call m h = h
-
-replied_has : (g : Setting) (call : DceCall) (runs : Bool) (r : Remainder) (y : Reply) → HasNumbers r → HasNumbers (after_reply g call runs r y).to
-replied_has g call runs r reply.Blocks h = h
-replied_has g call runs r y h = runs_has runs g call (replied g y r) (replied_keeps g y r h)
-
-called_have : (s : Script) (st : State) (t : Tid) (g : Setting) (call : DceCall) (r : Remainder) (values : Values) → Have st → HasNumbers r → Have (called s st t g call r values).state
-called_have s st t g call r (Ok ns) h i =
-    let o : Answered = answered s st t call ns in each_put HasNumbers o.state.remainders t.0 _ (replied_has g call o.runs r o.reply i) (answered_have s st t call ns h)
-called_have s st t g call r (Err x) h i = each_put HasNumbers st.remainders t.0 _ (raised_keeps x r i) h
-
-written_have : (st : State) (o : Option (NameId × ℤ)) → Have st → Have (written_to st o)
-written_have st None h = h
-written_have st (Some w) h = h
-
-shared_have : (s : Script) (st : State) (t : Tid) (g : Setting) (r : Remainder) (act : Act) → Have st → HasNumbers r → Have (shared_made s st t g r act).state
-shared_have s st t g r (Asks call) h i = called_have s st t g call r (asked g (shared_values st) call r) h i
-shared_have s st t g r _ h i =
-    each_put HasNumbers (written_to st (written g (shared_values st) r)).remainders t.0 (shared_step g (shared_values st) r).to (shared_keeps g (shared_values st) r i)
-    (written_have st (written g (shared_values st) r) h)
-
-handed_have : (st : State) (o : once.Undone) (w : Option Tid) → Have st → Have (handed_on st o w)
-handed_have st o None h = h
-handed_have st o (Some t) h = h
-
-end_have : (st : State) (t : Tid) (g : Setting) (r : Remainder) (o : NextDestructor) (c : Option DestructorCall) → Have st → HasNumbers r → Have (end_made st t g r o c).state
-end_have st t g r o (Some c) h i = each_put HasNumbers st.remainders t.0 _ (destructor_keeps g c.0 c.1 c.2 r i) h
-end_have st t g r o None h i = each_cut HasNumbers st.remainders t.0 h
-
-begun_by_has : (g : Setting) (act : Act) (m : Move) → HasNumbers m.to → HasNumbers (begun_by g act m).to
-begun_by_has g (Asks call) m h = routine_has g call m h
-begun_by_has g _ m h = h
-
-begun_has : (g : Setting) (p : Place) (m : Move) → HasNumbers m.to → HasNumbers (begun_at g p m).to
-begun_has g (At x) m h = begun_by_has g (act_at x) m h
-begun_has g _ m h = h
-
-debt_have : (st : State) (t : Tid) (g : Setting) (r : Remainder) (d : Debt) → Have st → HasNumbers r → Have (debt_made st t g r d).state
-debt_have st t g r (Return y) h i = each_put HasNumbers st.remainders t.0 (replied g y r).to (replied_keeps g y r i) h
-debt_have st t g r Delivery h i = each_put HasNumbers st.remainders t.0 _ (delivered_keeps r i) h
-debt_have st t g r Running h i = each_put HasNumbers st.remainders t.0 _ (begun_has g (place_in r.items) (replied g reply.Done r) (replied_keeps g reply.Done r i)) h
-
-halt_have : (s : Script) (st : State) (t : Tid) (g : Setting) (r : Remainder) (halt : Halt) → Have st → HasNumbers r → HaltMoves halt → Have (halt_made s st t g r halt).state
-halt_have s st t g r Delivers h i j = each_put HasNumbers st.remainders t.0 _ (delivered_keeps r i) h
-halt_have s st t g r (Shares spot) h i j = shared_have s st t g r (act_at spot) h i
-halt_have s st t g r (Undoes block m) h i j =
-    let o : once.Undone = once.undone st.onces st.rows block in each_put HasNumbers (handed_on st o o.runner).remainders t.0 m.to j (handed_have st o o.runner h)
-halt_have s st t g r (Completes block m) h i j = each_put HasNumbers st.remainders t.0 m.to j h
-halt_have s st t g r Ends h i j = let o : NextDestructor = next_destructor st.onces t in end_have st t g r o o.call h i
-halt_have s st t g r Pauses h i j = each_put HasNumbers st.remainders t.0 r i h
-
-turn_by_have : (s : Script) (st : State) (t : Tid) (d : Option Debt) → Have st → Have (turn_by s st t d).state
-turn_by_have s st t (Some d) h = debt_have (record st { debts = _ }) t (setting_of s st t) (remainder_of st t) d h (remainder_has st t h)
-turn_by_have s st t None h =
-    let run : Run = run_of most_steps (setting_of s st t) (mode_at st.threads t) (remainder_of st t) in
-    let x : RunMoves run = run_moves most_steps (setting_of s st t) (mode_at st.threads t) (remainder_of st t) (remainder_has st t h) in
-    halt_have s st t (setting_of s st t) run.to run.halt h x.to x.halt
-
-turn_have : (s : Script) (st : State) (t : Tid) → Have st → Have (turn_of s st t).state
-unfolding turn_of
-turn_have s st t h = turn_by_have s st t (debt_of st t) h
-
--- ---- events
-
-dispatch_have : (st : State) (p : ℕ) (d : Dispatched) (o : Option Tid) (made : Made) → Have st → dispatch_made st p d o ≡ Some made → Have made.state
-dispatch_have st p d None made h e = absurd (cc)
-dispatch_have st p d (Some t) made h e = subst (λ (m : Made). Have m.state) (ap (λ o. unwrap_or o made) e) h
-
-dispatch_if_have : (b : Bool) (st : State) (p : ℕ) (made : Made) → Have st → (if b then dispatch_made st p (dispatch st.rows p) (dispatch st.rows p).taken else None) ≡ Some made → Have made.state
-dispatch_if_have true st p made h e = dispatch_have st p (dispatch st.rows p) (dispatch st.rows p).taken made h e
-dispatch_if_have false st p made h e = absurd (cc)
-
-turn_if_have : (s : Script) (st : State) (o : Option Tid) (made : Made) → Have st → option_map (turn_of s st) o ≡ Some made → Have made.state
-turn_if_have s st None made h e = absurd (cc)
-turn_if_have s st (Some t) made h e = subst (λ (m : Made). Have m.state) (ap (λ o. unwrap_or o made) e) (turn_have s st t h)
-
-clock_at_have : (st : State) (o : Option ℤ) (made : Made) → Have st → option_map (clock_to st) o ≡ Some made → Have made.state
-clock_at_have st None made h e = absurd (cc)
-clock_at_have st (Some now) made h e = subst (λ (m : Made). Have m.state) (ap (λ o. unwrap_or o made) e) h
-
-clock_have : (st : State) (b : Bool) (made : Made) → Have st → clock_of b st ≡ Some made → Have made.state
-clock_have st true made h e = absurd (cc)
-clock_have st false made h e = clock_at_have st (earliest st.conds) made h e
-
-made_have : (s : Script) (n : ℕ) (st : State) (e : Event) (made : Made) → Have st → made_by s n st e ≡ Some made → Have made.state
-unfolding made_by
-made_have s n st (event.Dispatch p) made h e = dispatch_if_have (nat_lt p n) st p made h e
-made_have s n st (event.Turn p) made h e = turn_if_have s st (running st.rows p) made h e
-made_have s n st event.Clock made h e = clock_have st (some_can_run st.rows) made h e
+pub remainder_numbered : (s : Script) (st : State) (t : Tid) → Each HasNumbers st.remainders → HasNumbers (remainder_of st t)
+remainder_numbered s st t h = remainder_has (λ s. HasNumbers) numbers_by_turns s st t h
 
 -- In every history the unwindings of each thread have such numbers.
 pub numbers-given : {s : Script} {n : ℕ} {st : State} {events : List Event} {entries : List Entry} {turns : ℕ} → History s n st events entries turns
     → (t : ℕ) (r : Remainder) → get st.remainders t ≡ Some r → HasNumbers r
-numbers-given {s} opened = each_put HasNumbers none 1 _ (fresh_has s _ _) (each_none HasNumbers)
-numbers-given {s} {n} (then_event {st} h open_ e made m) = made_have s n st e made (numbers-given h) m
+numbers-given h = history_has (λ s. HasNumbers) numbers_by_turns h

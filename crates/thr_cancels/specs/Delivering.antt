@@ -2,8 +2,8 @@
 use Rattle.std.specs.Prelude.{◌≡◌, true, List}
 use Rattle.std.specs.List.{list_all}
 use Rattle.thr_values.specs.declared.history.What.{What}
+use Rattle.thr_remainder.specs.Runs.{Halt, Delivers, Undoes, Ends, Run}
 use Rattle.thr_laws.specs.CancelLaw.{is_carried}
-use Rattle.thr_model.specs.Runs.{Halt, Delivers, Undoes, Ends, Run}
 
 -- Each line carries an unwinding (docs/laws.md, "Routes").
 abbrev pub AreCarried : List What → Type 0

@@ -1,6 +1,7 @@
 -- What each event makes of a state in which thread 1 is alone.
-use Rattle.std.proofs.Common.{◌≡◌, ℕ, suc, ℤ, pos, ◌-◌, Bool, true, false, List, [], ◌∷◌, refl, ap, ◌∙◌, None, Some}
+use Rattle.std.proofs.Common.{◌≡◌, ℕ, suc, ℤ, pos, ◌+◌, ◌-◌, Bool, true, false, List, [], ◌∷◌, refl, ap, ◌∙◌, None, Some}
 use Rattle.std.specs.Prelude.{◌==◌, ◌&&◌, ◌||◌, map, nat_lt, nat_le, is_none, if◌then◌else◌, Option}
+use Rattle.std.proofs.lemmas.List.{append-nil}
 use Rattle.std.specs.Option.{option_map}
 use Rattle.thr_values.specs.declared.event.Event.TheVariants as event
 use Rattle.thr_values.specs.declared.event.Stop.{Stop}
@@ -9,8 +10,9 @@ use Rattle.thr_values.specs.declared.number.Tid.{Tid}
 use Rattle.thr_values.specs.declared.history.What.TheVariants as what
 use Rattle.thr_syntax.specs.declared.tree.Script.{Script}
 use Rattle.thr_remainder.specs.Computing.{remainder_words}
-use Rattle.thr_remainder.specs.Places.{Placed, Left, nothing}
+use Rattle.thr_remainder.specs.Places.{Placed, Left, body_size, placed, nothing}
 use Rattle.thr_remainder.specs.Remainders.{Setting, Calling, Spot}
+use Rattle.thr_remainder.specs.Runs.{Run, Shares, Ends, run_of}
 use Rattle.thr_parts.specs.declared.row.RowId.TheVariants as row
 use Rattle.thr_parts.specs.declared.row.Place.TheVariants.{Runs, Stands}
 use Rattle.thr_parts.specs.Computing.{parts_words}
@@ -20,7 +22,6 @@ use Rattle.thr_parts.specs.Threads.{new_mode}
 use Rattle.thr_parts.specs.declared.row.Seat.{Seat}
 use Rattle.thr_parts.specs.Dispatch.{first, Dispatched, dispatch, running, keeps}
 use Rattle.thr_model.specs.States.{State, setting_of, main_of, opening}
-use Rattle.thr_model.specs.Runs.{Run, Shares, Ends, run_of}
 use Rattle.thr_model.specs.Turns.{Made, thread_line, run_made, kept, turn_of}
 use Rattle.thr_model.specs.Events.{run_line, dispatch_made, made_by}
 use Rattle.thr_model.specs.Histories.{limit_of, limit_stop, stop_at}
@@ -154,7 +155,8 @@ limit-is parameter numbers = refl
 
 pub alone-opening : (parameter : List ℕ) (numbers : List ℤ) → opening (saying_script parameter numbers) ≡ alone_at (saying_script parameter numbers) Ready (left_of (map say numbers) 0)
 unfolding main_of parts_words remainder_words
-alone-opening parameter numbers = refl
+alone-opening parameter numbers =
+    ap (λ (todo : List Placed). let left : Left = record { todo = todo; close = 3 + body_size (map say numbers) } in alone_at (saying_script parameter numbers) Ready left) (append-nil (placed 3 (map say numbers)))
 
 -- ---- what was made
 

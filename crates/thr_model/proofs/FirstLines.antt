@@ -23,14 +23,14 @@ use Rattle.thr_remainder.specs.Calls.{is_point, shape_of}
 use Rattle.thr_remainder.specs.Replies.{Values, asked}
 use Rattle.thr_remainder.specs.Next.{Next, next, next_by, next_outward, next_end, next_shared, next_at}
 use Rattle.thr_remainder.specs.Next as step
+use Rattle.thr_remainder.specs.Runs.{is_deliverable, Halt, Delivers, Shares, Undoes, Completes, Ends, Pauses, Run, pauses, or_delivers, goes_on, quiet_or_delivers, is_asynchronous, at_next, outward_move, run_of, most_steps}
 use Rattle.thr_values.specs.declared.scheduling.Mode.{Mode}
 use Rattle.thr_parts.specs.Rows.{Rows}
 use Rattle.thr_parts.specs.Dispatch.{running, some_can_run, Dispatched, dispatch}
-use Rattle.thr_parts.specs.Cancels.{mode_at, is_deliverable}
+use Rattle.thr_parts.specs.Cancels.{mode_at}
 use Rattle.thr_parts.specs.Expiry.{earliest}
 use Rattle.thr_parts.specs.Keys.{DestructorCall, NextDestructor, next_destructor}
 use Rattle.thr_model.specs.States.{State, Debt, Return, Delivery, Running, remainder_of, setting_of, debt_of, shared_values}
-use Rattle.thr_model.specs.Runs.{Halt, Delivers, Shares, Undoes, Completes, Ends, Pauses, Run, pauses, or_delivers, goes_on, quiet_or_delivers, is_asynchronous, at_next, outward_move, run_of, most_steps}
 use Rattle.thr_model.specs.Turns.{Made, thread_line, called, shared_made, end_made, debt_made, halt_made, turn_by, turn_of}
 use Rattle.thr_model.specs.Events.{dispatch_made, clock_to, clock_of, made_by}
 

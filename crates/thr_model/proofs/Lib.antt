@@ -4,6 +4,7 @@ pub mod RowsKept
 pub mod Arrivals
 pub mod PartTables
 pub mod StateTables
+pub mod RemaindersKept
 pub mod ScopeOrder
 pub mod Owners
 pub mod FirstLines

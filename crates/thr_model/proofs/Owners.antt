@@ -17,6 +17,7 @@ use Rattle.thr_remainder.specs.Acts.{Act, Asks}
 use Rattle.thr_remainder.specs.Remainders.{Setting, Remainder, act_at}
 use Rattle.thr_remainder.specs.Steps.{written}
 use Rattle.thr_remainder.specs.Replies.{Values, asked}
+use Rattle.thr_remainder.specs.Runs.{Halt, Delivers, Shares, Undoes, Completes, Ends, Pauses, Run, run_of, most_steps}
 use Rattle.thr_parts.specs.declared.row.RowId.{RowId}
 use Rattle.thr_parts.specs.declared.row.RowId.TheVariants as row
 use Rattle.thr_parts.specs.declared.row.Seat.{Seat}
@@ -46,7 +47,6 @@ use Rattle.thr_parts.proofs.EachLaws.{each_none}
 use Rattle.thr_parts.proofs.OwnerLaws.{AreOwned, IsOwned, IsMade, lock_owned, trylock_owned, unlock_owned, wait_owned, timedwait_owned, delay_owned, regain_owned, ready_owned, wake_all_owned, cancel_wait_owned, signal_owned, signalled_made, init_owned, destroy_owned, block_if_owned, block_in_owned, take_out_owned, leave_owned, set_rank_owned, free_row_owned, keeps_owned, dispatch_owned, nobody_waits}
 use Rattle.thr_model.specs.States.{State, Debt, Return, Delivery, Running, rank_of, remainder_of, setting_of, debt_of, shared_values, opening}
 use Rattle.thr_model.specs.Calls.{answered, ready_if, rank_if, cancelled, given_state, signals_one, woken_state, first, second}
-use Rattle.thr_model.specs.Runs.{Halt, Delivers, Shares, Undoes, Completes, Ends, Pauses, Run, run_of, most_steps}
 use Rattle.thr_model.specs.Turns.{Made, called, written_to, shared_made, handed_on, end_made, debt_made, halt_made, turn_by, kept, is_fifo_in, turn_of}
 use Rattle.thr_model.specs.Events.{dispatch_made, clock_to, clock_of, made_by}
 use Rattle.thr_model.specs.Histories.{History, opened, then_event}

@@ -19,6 +19,7 @@ use Rattle.thr_remainder.specs.Acts.{Act, Asks}
 use Rattle.thr_remainder.specs.Remainders.{Setting, Remainder, act_at}
 use Rattle.thr_remainder.specs.Steps.{written}
 use Rattle.thr_remainder.specs.Replies.{Values, asked}
+use Rattle.thr_remainder.specs.Runs.{Halt, Delivers, Shares, Undoes, Completes, Ends, Pauses, Run, run_of, most_steps}
 use Rattle.thr_parts.specs.declared.row.RowId.TheVariants as row
 use Rattle.thr_parts.specs.Tables.{Table, none, get, put, IsCanonical}
 use Rattle.thr_parts.specs.Rows.{Rows, thread}
@@ -42,7 +43,6 @@ use Rattle.thr_parts.proofs.EachLaws.{each_none}
 use Rattle.thr_parts.proofs.TableLaws.{canonical_none, canonical_put, canonical_cut, canonical_put_if}
 use Rattle.thr_model.specs.States.{State, Debt, Return, Delivery, Running, rank_of, remainder_of, with_remainder, setting_of, debt_of, owes, owes_more, all_owe, shared_values, with_writes, declared_values, opening}
 use Rattle.thr_model.specs.Calls.{Answered, answered, cancelled, given_state, signals_one, woken_state, first}
-use Rattle.thr_model.specs.Runs.{Halt, Delivers, Shares, Undoes, Completes, Ends, Pauses, Run, run_of, most_steps}
 use Rattle.thr_model.specs.Turns.{Made, with_stores, stores_of, called, written_to, shared_made, handed_on, end_made, debt_made, halt_made, turn_by, kept, turn_of}
 use Rattle.thr_model.specs.Events.{dispatch_made, due_debt, due_owe, clock_to, clock_of, made_by}
 use Rattle.thr_model.specs.Histories.{History, opened, then_event}

@@ -1,6 +1,5 @@
 pub mod States
 pub mod Calls
-pub mod Runs
 pub mod Turns
 pub mod Events
 pub mod Histories

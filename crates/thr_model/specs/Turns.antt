@@ -20,6 +20,7 @@ use Rattle.thr_remainder.specs.Steps.{shared_step, written}
 use Rattle.thr_remainder.specs.Calls.{shape_of, arguments}
 use Rattle.thr_remainder.specs.Replies.{Values, asked, replied}
 use Rattle.thr_remainder.specs.Replies as replies
+use Rattle.thr_remainder.specs.Runs.{Halt, Delivers, Shares, Undoes, Completes, Ends, Pauses, Run, run_of, most_steps}
 use Rattle.thr_parts.specs.declared.row.RowId.TheVariants as row
 use Rattle.thr_parts.specs.declared.thread.Thread.{Thread}
 use Rattle.thr_parts.specs.Tables.{cut}
@@ -31,7 +32,6 @@ use Rattle.thr_parts.specs.Keys.{DestructorCall, NextDestructor, next_destructor
 use Rattle.thr_parts.specs.OnceBlocks as once
 use Rattle.thr_model.specs.States.{State, Debt, Return, Delivery, Running, remainder_of, with_remainder, setting_of, rank_of, debt_of, owes, all_owe, shared_values, with_writes}
 use Rattle.thr_model.specs.Calls.{Gifts, Answered, answered}
-use Rattle.thr_model.specs.Runs.{Halt, Delivers, Shares, Undoes, Completes, Ends, Pauses, Run, run_of, most_steps}
 
 -- What an event makes: the state after it, and its lines (docs/machine.md, "Events").
 pub record Made : Type 0 where

@@ -24,9 +24,8 @@ use Rattle.thr_remainder.specs.Outward as unwinding
 use Rattle.thr_remainder.specs.Replies.{raised_if, raised_by, replied_by, replied_at, replied}
 use Rattle.thr_remainder.specs.Next.{Next, next, next_by, next_outward, next_end, next_shared, next_at}
 use Rattle.thr_remainder.specs.Next as step
-use Rattle.thr_parts.specs.Cancels.{is_deliverable}
-use Rattle.thr_model.specs.Runs.{Halt, Delivers, Shares, Completes, Ends, Pauses, Run, pauses, or_delivers, goes_on, quiet_or_delivers, is_asynchronous, at_next, outward_move, run_of}
-use Rattle.thr_model.specs.Runs as runs
+use Rattle.thr_remainder.specs.Runs.{is_deliverable, Halt, Delivers, Shares, Completes, Ends, Pauses, Run, pauses, or_delivers, goes_on, quiet_or_delivers, is_asynchronous, at_next, outward_move, run_of}
+use Rattle.thr_remainder.specs.Runs as runs
 use Rattle.thr_model.specs.Turns.{runs_routine, runs_if, after_reply, begun_by, begun_at}
 use Rattle.thr_owners.proofs.Carrying.{IsAside, AreAside}
 

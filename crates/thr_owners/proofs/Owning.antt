@@ -17,6 +17,7 @@ use Rattle.thr_remainder.specs.Remainders.{Setting, Remainder, Move, place_in, a
 use Rattle.thr_remainder.specs.Starts.{still, raised, delivered, begins_destructor}
 use Rattle.thr_remainder.specs.Steps.{shared_step, written}
 use Rattle.thr_remainder.specs.Replies.{Values, asked, replied}
+use Rattle.thr_remainder.specs.Runs.{Halt, Delivers, Shares, Undoes, Completes, Ends, Pauses, Run, run_of, most_steps}
 use Rattle.thr_parts.specs.declared.mutex.Mutex.{Mutex}
 use Rattle.thr_parts.specs.Tables.{get}
 use Rattle.thr_parts.specs.Dispatch.{Dispatched, running, some_can_run, dispatch}
@@ -30,7 +31,6 @@ use Rattle.thr_parts.specs.OnceBlocks as once
 use Rattle.thr_parts.proofs.TableLaws.{get_none}
 use Rattle.thr_model.specs.States.{State, Debt, Return, Delivery, Running, rank_of, remainder_of, setting_of, debt_of, shared_values}
 use Rattle.thr_model.specs.Calls.{Answered, answered}
-use Rattle.thr_model.specs.Runs.{Halt, Delivers, Shares, Undoes, Completes, Ends, Pauses, Run, run_of, most_steps}
 use Rattle.thr_model.specs.Turns.{Made, thread_line, gift_lines, moved, called, after_reply, written_to, shared_made, delivery_made, handed_on, end_made, begun_at, debt_made, halt_made, turn_by, turn_of}
 use Rattle.thr_model.specs.Events.{clock_line, dispatch_made, clock_made, clock_to, clock_of, made_by}
 use Rattle.thr_model.specs.Histories.{History, opened, then_event}

@@ -1,5 +1,6 @@
 pub mod TableLaws
 pub mod EntryLaws
+pub mod LengthLaws
 pub mod BestLaws
 pub mod RowLaws
 pub mod MoveLaws

@@ -9,7 +9,7 @@ use Rattle.thr_parts.specs.declared.row.RowId.TheVariants as row
 use Rattle.thr_parts.specs.declared.row.Seat.{Seat}
 use Rattle.thr_parts.specs.Tables.{get, IsCanonical}
 use Rattle.thr_parts.specs.Rows.{Rows, Seated, seat_of, row_of, is_before, better, best_of, placed, in_order, standing, numbers_of, best, best_first, is_among}
-use Rattle.thr_parts.specs.Dispatch.{is_outranked, is_matched}
+use Rattle.thr_parts.specs.Dispatch.{is_outranked, is_matched, outranks, matches_rank}
 use Rattle.thr_parts.proofs.EntryLaws.{get_cons, get_empty}
 use Rattle.thr_parts.proofs.RowLaws.{HasSeat, has_seat, seat_of_row, row_of_seat, stands, IsBest, is_best, seat_of_best, no_number}
 
@@ -92,14 +92,6 @@ one_row rs t a b h in_a in_b = same_some a b (sym ((among_is rs a t h).0 in_a) �
 
 -- ---- the best tells of the others
 
-abbrev greatest : ℕ → Option (ℕ × Seat) → Bool
-greatest rank None = false
-greatest rank (Some e) = nat_lt rank e.1.rank
-
-abbrev equal : ℕ → Option (ℕ × Seat) → Bool
-equal rank None = false
-equal rank (Some e) = e.1.rank == rank
-
 greatest_better : (rank : ℕ) (e f : ℕ × Seat) (b : Bool) → is_before e.1 f.1 ≡ b → nat_lt rank (cond b e f).1.rank ≡ (nat_lt rank e.1.rank || nat_lt rank f.1.rank)
 greatest_better rank e f true h = grind (arith, nat_tests)
 greatest_better rank e f false h = grind (arith, nat_tests)
@@ -108,7 +100,7 @@ or_nothing : (b : Bool) → b ≡ (b || false)
 or_nothing true = refl
 or_nothing false = refl
 
-greatest_of : (rank : ℕ) (e : ℕ × Seat) (o : Option (ℕ × Seat)) → nat_lt rank (better e o).1.rank ≡ (nat_lt rank e.1.rank || greatest rank o)
+greatest_of : (rank : ℕ) (e : ℕ × Seat) (o : Option (ℕ × Seat)) → nat_lt rank (better e o).1.rank ≡ (nat_lt rank e.1.rank || outranks rank o)
 greatest_of rank e None = or_nothing (nat_lt rank e.1.rank)
 greatest_of rank e (Some f) = greatest_better rank e f (is_before e.1 f.1) refl
 
@@ -120,17 +112,18 @@ best_empty : best_of [] ≡ None
 unfolding best_of
 best_empty = refl
 
-any_greater : (rank : ℕ) (es : Seated) → list_any (λ (e : ℕ × Seat). nat_lt rank e.1.rank) es ≡ greatest rank (best_of es)
-any_greater rank [] = sym (ap (greatest rank) best_empty)
-any_greater rank (e ∷ es) = ap (λ b. nat_lt rank e.1.rank || b) (any_greater rank es) ∙ sym (ap (greatest rank) (best_cons e es) ∙ greatest_of rank e (best_of es))
+-- One of several has greater rank than this where the best has.
+pub any_greater : (rank : ℕ) (es : Seated) → list_any (λ (e : ℕ × Seat). nat_lt rank e.1.rank) es ≡ outranks rank (best_of es)
+any_greater rank [] = sym (ap (outranks rank) best_empty)
+any_greater rank (e ∷ es) = ap (λ b. nat_lt rank e.1.rank || b) (any_greater rank es) ∙ sym (ap (outranks rank) (best_cons e es) ∙ greatest_of rank e (best_of es))
 
 equal_better : (rank : ℕ) (e f : ℕ × Seat) (b : Bool) → is_before e.1 f.1 ≡ b → nat_lt rank e.1.rank ≡ false → nat_lt rank f.1.rank ≡ false
     → ((cond b e f).1.rank == rank) ≡ ((e.1.rank == rank) || (f.1.rank == rank))
 equal_better rank e f true h le lf = grind (arith, nat_tests)
 equal_better rank e f false h le lf = grind (arith, nat_tests)
 
-equal_of : (rank : ℕ) (e : ℕ × Seat) (o : Option (ℕ × Seat)) → nat_lt rank e.1.rank ≡ false → greatest rank o ≡ false
-    → ((better e o).1.rank == rank) ≡ ((e.1.rank == rank) || equal rank o)
+equal_of : (rank : ℕ) (e : ℕ × Seat) (o : Option (ℕ × Seat)) → nat_lt rank e.1.rank ≡ false → outranks rank o ≡ false
+    → ((better e o).1.rank == rank) ≡ ((e.1.rank == rank) || matches_rank rank o)
 equal_of rank e None le lo = or_nothing (e.1.rank == rank)
 equal_of rank e (Some f) le lo = equal_better rank e f (is_before e.1 f.1) refl le lo
 
@@ -138,13 +131,14 @@ neither : (a b : Bool) → (a || b) ≡ false → (a ≡ false) × (b ≡ false)
 neither true b e = absurd (cc)
 neither false b e = (refl, e)
 
-any_equal : (rank : ℕ) (es : Seated) → list_any (λ (e : ℕ × Seat). nat_lt rank e.1.rank) es ≡ false
-    → list_any (λ (e : ℕ × Seat). e.1.rank == rank) es ≡ equal rank (best_of es)
-any_equal rank [] h = sym (ap (equal rank) best_empty)
+-- Where none has, one has equal rank where the best has.
+pub any_equal : (rank : ℕ) (es : Seated) → list_any (λ (e : ℕ × Seat). nat_lt rank e.1.rank) es ≡ false
+    → list_any (λ (e : ℕ × Seat). e.1.rank == rank) es ≡ matches_rank rank (best_of es)
+any_equal rank [] h = sym (ap (matches_rank rank) best_empty)
 any_equal rank (e ∷ es) h =
     let parts : (nat_lt rank e.1.rank ≡ false) × (list_any (λ (f : ℕ × Seat). nat_lt rank f.1.rank) es ≡ false) = neither _ _ h in
     ap (λ b. (e.1.rank == rank) || b) (any_equal rank es parts.1)
-    ∙ sym (ap (equal rank) (best_cons e es) ∙ equal_of rank e (best_of es) parts.0 (sym (any_greater rank es) ∙ parts.1))
+    ∙ sym (ap (matches_rank rank) (best_cons e es) ∙ equal_of rank e (best_of es) parts.0 (sym (any_greater rank es) ∙ parts.1))
 
 seat_rank : (rs : Rows) (w : Tid) (s : Seat) (e : ℕ × Seat) → HasSeat rs w.0 row.Ready e.1 → seat_of rs w ≡ Some s → e.1 ≡ s
 seat_rank rs w s e h is = same_some e.1 s (sym h.at ∙ is)
@@ -154,17 +148,17 @@ pub outranked_by_best : (rs : Rows) (rank : ℕ) (w : Tid) (s : Seat) → IsCano
     → is_outranked rs rank ≡ nat_lt rank s.rank
 outranked_by_best rs rank w s h e is =
     let b : (x : ℕ × Seat) × IsBest rs row.Ready w x = is_best rs row.Ready w e in
-    any_greater rank (standing rs row.Ready) ∙ ap (greatest rank) b.1.best ∙ ap (λ (x : Seat). nat_lt rank x.rank) (seat_rank rs w s b.0 (seat_of_best rs row.Ready w b.0 h b.1) is)
+    any_greater rank (standing rs row.Ready) ∙ ap (outranks rank) b.1.best ∙ ap (λ (x : Seat). nat_lt rank x.rank) (seat_rank rs w s b.0 (seat_of_best rs row.Ready w b.0 h b.1) is)
 
 pub outranked_by_nobody : (rs : Rows) (rank : ℕ) → best rs row.Ready ≡ None → is_outranked rs rank ≡ false
-outranked_by_nobody rs rank e = any_greater rank (standing rs row.Ready) ∙ ap (greatest rank) (no_number _ e)
+outranked_by_nobody rs rank e = any_greater rank (standing rs row.Ready) ∙ ap (outranks rank) (no_number _ e)
 
--- Where it isn't, a ready thread has equal rank where the best has.
+-- Where it isn't, a ready thread has matches_rank rank where the best has.
 pub matched_by_best : (rs : Rows) (rank : ℕ) (w : Tid) (s : Seat) → IsCanonical rs.seats → best rs row.Ready ≡ Some w → seat_of rs w ≡ Some s
     → is_outranked rs rank ≡ false → is_matched rs rank ≡ (s.rank == rank)
 matched_by_best rs rank w s h e is out =
     let b : (x : ℕ × Seat) × IsBest rs row.Ready w x = is_best rs row.Ready w e in
-    any_equal rank (standing rs row.Ready) out ∙ ap (equal rank) b.1.best ∙ ap (λ (x : Seat). x.rank == rank) (seat_rank rs w s b.0 (seat_of_best rs row.Ready w b.0 h b.1) is)
+    any_equal rank (standing rs row.Ready) out ∙ ap (matches_rank rank) b.1.best ∙ ap (λ (x : Seat). x.rank == rank) (seat_rank rs w s b.0 (seat_of_best rs row.Ready w b.0 h b.1) is)
 
 pub matched_by_nobody : (rs : Rows) (rank : ℕ) → best rs row.Ready ≡ None → is_matched rs rank ≡ false
-matched_by_nobody rs rank e = any_equal rank (standing rs row.Ready) (outranked_by_nobody rs rank e) ∙ ap (equal rank) (no_number _ e)
+matched_by_nobody rs rank e = any_equal rank (standing rs row.Ready) (outranked_by_nobody rs rank e) ∙ ap (matches_rank rank) (no_number _ e)

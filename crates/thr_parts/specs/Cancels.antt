@@ -1,5 +1,5 @@
 -- Cancelabilities, and what a cancel does (docs/machine.md, "Cancels").
-use Rattle.std.specs.Prelude.{Bool, true, false, ◌&&◌, ◌||◌, if◌then◌else◌, is_some, ℤ, pos, Option, Some, None}
+use Rattle.std.specs.Prelude.{Bool, true, false, ◌&&◌, if◌then◌else◌, is_some, ℤ, pos, Option, Some, None}
 use Rattle.std.specs.Option.{option_map}
 use Rattle.thr_values.specs.declared.number.Tid.{Tid}
 use Rattle.thr_values.specs.declared.reply.Effect.{Effect}
@@ -113,10 +113,6 @@ cancel ths target at_point =
     }
 
 -- ---- deliveries
-
--- A cancel can be delivered to a thread whose next step is a point or isn't (docs/machine.md, "Cancels").
-abbrev pub is_deliverable : Mode → Bool → Bool
-is_deliverable m next_is_point = m.pending && m.general && (next_is_point || m.asynchronous)
 
 -- A delivery clears the mark and leaves both cancelabilities (docs/machine.md, "Cancels").
 abbrev pub deliver : Threads → Tid → Threads

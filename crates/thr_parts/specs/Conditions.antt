@@ -1,7 +1,6 @@
 -- Conditions, and waits that begin on them or for a time (docs/machine.md, "Conditions").
 use Rattle.std.specs.Prelude.{ℕ, ◌==◌, Bool, true, false, not, ◌&&◌, if◌then◌else◌, int_le, int_lt, ◌+ℤ◌, ℤ, pos, Option, Some, None, ⊤}
 use Rattle.std.specs.List.{list_any}
-use Rattle.std.specs.Option.{option_map}
 use Rattle.thr_values.specs.declared.number.Tid.{Tid}
 use Rattle.thr_values.specs.declared.number.NameId.{NameId}
 use Rattle.thr_values.specs.declared.reply.Reply.{Reply}
@@ -12,10 +11,10 @@ use Rattle.thr_parts.specs.declared.wait.Wait.TheVariants.{Cond, Delay}
 use Rattle.thr_parts.specs.Tables.{Table, none, get, has, put_if, cut_if, keep_if}
 use Rattle.thr_parts.specs.Replies.{is_done, is_blocks, making_reply}
 use Rattle.thr_parts.specs.Times.{is_no_interval}
-use Rattle.thr_parts.specs.Rows.{Rows, best}
-use Rattle.thr_parts.specs.Moves.{block_if, take_out_if}
-use Rattle.thr_parts.specs.Mutexes.{Locks, owner, mutex_at, with_mutex}
-use Rattle.thr_parts.specs.Locking.{is_held_by, is_last, as_unlocked}
+use Rattle.thr_parts.specs.Rows.{Rows}
+use Rattle.thr_parts.specs.Moves.{block_if}
+use Rattle.thr_parts.specs.Mutexes.{Locks, owner}
+use Rattle.thr_parts.specs.Locking.{is_held_by, is_last, GivenUp, give_up_if}
 
 -- The conditions that are made, and the waits of the threads that wait on one or for a time (docs/machine.md, "Conditions").
 pub record Conds : Type 0 where
@@ -130,17 +129,17 @@ abbrev pub timedwait_reply : Reply → Bool → Reply
 timedwait_reply reply.Blocks true = reply.Eagain
 timedwait_reply said is_past = said
 
--- A wait that is replied so. The caller takes its arrival first, and then the best that waits for the mutex has it at once
--- (docs/machine.md, "Conditions").
+-- A wait that is replied so. The caller takes its arrival first, and then it gives the mutex up (docs/machine.md,
+-- "Conditions").
 abbrev pub begin_wait : Conds → Locks → Rows → NameId → NameId → Option ℤ → Tid → ℕ → Reply → Waited
 begin_wait cs ls rs c m until t rank said =
     let waiting : Rows = block_if (is_blocks said) rs (row.Cond c) t rank in
-    let next : Option Tid = keep_if (is_blocks said) (best waiting (row.Mutex m)) in record {
+    let after : GivenUp = give_up_if (is_blocks said) (is_blocks said) ls waiting (Some m) in record {
       reply = said;
       conds = record { made = cs.made; waits = put_if cs.waits t.0 (keep_if (is_blocks said) (Some (Cond c m until))) };
-      locks = with_mutex ls (Some m) (keep_if (is_blocks said) (option_map (as_unlocked next) (mutex_at ls (Some m))));
-      rows = take_out_if waiting next;
-      given = next;
+      locks = after.locks;
+      rows = after.rows;
+      given = after.given;
     }
 
 -- A thread waits on a condition and gives its mutex up (docs/machine.md, "Conditions").

@@ -70,6 +70,16 @@ is_outranked rs rank = list_any (λ e. nat_lt rank e.1.rank) (standing rs row.Re
 abbrev pub is_matched : Rows → ℕ → Bool
 is_matched rs rank = list_any (λ e. e.1.rank == rank) (standing rs row.Ready)
 
+-- The thread that is there has greater rank than this.
+abbrev pub outranks : ℕ → Option (ℕ × Seat) → Bool
+outranks rank None = false
+outranks rank (Some e) = nat_lt rank e.1.rank
+
+-- The thread that is there has this rank.
+abbrev pub matches_rank : ℕ → Option (ℕ × Seat) → Bool
+matches_rank rank None = false
+matches_rank rank (Some e) = e.1.rank == rank
+
 -- What is left of a slice after a turn. Under SCHED_FIFO nothing is lost (docs/machine.md, "Dispatch and slices").
 abbrev pub slice_after : Bool → ℕ → ℕ
 slice_after true slice = slice

@@ -1,5 +1,5 @@
 -- Mutexes and the global lock: who locks them, unlocks them and is handed them (docs/machine.md, "Mutexes").
-use Rattle.std.specs.Prelude.{ℕ, ◌+◌, ◌-◌, ◌==◌, nat_le, Bool, false, ◌&&◌, if◌then◌else◌, is_none, pos, Option, Some, None}
+use Rattle.std.specs.Prelude.{ℕ, ◌+◌, ◌-◌, ◌==◌, nat_le, Bool, true, false, ◌&&◌, if◌then◌else◌, is_none, pos, Option, Some, None}
 use Rattle.std.specs.Option.{option_map}
 use Rattle.thr_values.specs.declared.number.Tid.{Tid}
 use Rattle.thr_values.specs.declared.number.NameId.{NameId}
@@ -113,7 +113,28 @@ held_after next h = if is_last h then option_map owned_by next else option_map o
 abbrev pub as_unlocked : Option Tid → Mutex → Mutex
 as_unlocked next x = record { kind = x.kind; held = held_after next x.held }
 
--- The same, with the thread that has the mutex now, taken out of its row (docs/machine.md, "Mutexes").
+-- The locks and rows after a hand-over, and the thread that has the mutex now, taken out of its row (docs/machine.md,
+-- "Mutexes").
+pub record GivenUp : Type 0 where
+  pub locks : Locks
+  pub rows : Rows
+  pub given : Option Tid
+
+-- A mutex or the global lock is unlocked or isn't, and is given up by that or isn't.
+abbrev pub give_up_if : (unlocks gives : Bool) → Locks → Rows → Option NameId → GivenUp
+give_up_if unlocks gives ls rs m =
+    let next : Option Tid = keep_if gives (best rs (waiters_row m)) in record {
+      locks = with_mutex ls m (keep_if unlocks (option_map (as_unlocked next) (mutex_at ls m)));
+      rows = take_out_if rs next;
+      given = next;
+    }
+
+-- A mutex or the global lock, which is locked once, is given up: the best that waits for it has it at once, and it is free
+-- where nobody does (docs/machine.md, "Mutexes").
+abbrev pub give_up : Locks → Rows → Option NameId → GivenUp
+give_up ls rs m = give_up_if true true ls rs m
+
+-- A reply, and the same after it (docs/machine.md, "Mutexes").
 pub record Unlocked : Type 0 where
   pub reply : Reply
   pub locks : Locks
@@ -125,11 +146,11 @@ pub record Unlocked : Type 0 where
 abbrev pub unlock : Locks → Rows → Option NameId → Tid → Unlocked
 unlock ls rs m t =
     let said : Reply = unlock_reply (mutex_at ls m) t in
-    let next : Option Tid = keep_if (is_done said && is_last (owner ls m)) (best rs (waiters_row m)) in record {
+    let after : GivenUp = give_up_if (is_done said) (is_done said && is_last (owner ls m)) ls rs m in record {
       reply = said;
-      locks = with_mutex ls m (keep_if (is_done said) (option_map (as_unlocked next) (mutex_at ls m)));
-      rows = take_out_if rs next;
-      given = next;
+      locks = after.locks;
+      rows = after.rows;
+      given = after.given;
     }
 
 -- ---- a thread that left a condition

@@ -1,5 +1,5 @@
 -- Threads in rows and on processors, and the best thread of a row (docs/machine.md, "Rows").
-use Rattle.std.specs.Prelude.{ℕ, Bool, true, false, ◌&&◌, ◌||◌, ◌==◌, nat_lt, if◌then◌else◌, is_some, is_none, List, [], ◌∷◌, map, Option, Some, None}
+use Rattle.std.specs.Prelude.{ℕ, Bool, true, false, ◌&&◌, ◌||◌, ◌==◌, nat_lt, if◌then◌else◌, is_some, is_none, List, [], ◌∷◌, map, length, Option, Some, None}
 use Rattle.std.specs.List.{filter, list_any}
 use Rattle.std.specs.Option.{option_map}
 use Rattle.thr_values.specs.declared.number.Tid.{Tid}
@@ -70,6 +70,14 @@ is_in_row s = is_some (row_at s)
 abbrev pub is_running : Option Seat → Bool
 is_running None = false
 is_running (Some s) = is_none (row_in s.place)
+
+-- How many threads can stand in rows or run, and how many have a record at most (docs/machine.md, "Thread records").
+abbrev pub most : ℕ
+most = 1024
+
+-- The thread runs, or there is room for one more.
+abbrev pub has_room : Rows → Tid → Bool
+has_room rs t = is_running (seat_of rs t) || nat_lt (length rs.seats) most
 
 -- ---- the best of several threads
 

@@ -3,6 +3,11 @@ use Rattle.std.specs.Prelude.{◌≡◌, ℕ, ◌+◌, Bool, true, false, not, �
 use Rattle.std.specs.Ordering.{nat_cmp}
 use Rattle.std.specs.FinMap.Entries as entries
 
+-- Names have numbers below this: the ten built-in exceptions, and 1,000 names that a script declares (docs/script.md,
+-- "Faults").
+abbrev pub names : ℕ
+names = 1010
+
 -- Entries by their numbers. A number at which nothing stands has none (docs/machine.md, "Tables").
 abbrev pub Table : Type 0 → Type 0
 Table A = List (ℕ × A)

@@ -14,7 +14,7 @@ use Rattle.thr_parts.specs.declared.thread.Attr.{Attr}
 use Rattle.thr_parts.specs.declared.thread.Thread.{Thread}
 use Rattle.thr_parts.specs.Tables.{Table, none, get, put, put_if, cut, keep_if}
 use Rattle.thr_parts.specs.Replies.{is_value}
-use Rattle.thr_parts.specs.Rows.{thread}
+use Rattle.thr_parts.specs.Rows.{thread, most}
 
 -- The records by the numbers of their threads, the number of the next thread, and the attribute cells that are made, by their
 -- names (docs/machine.md, "Thread records").
@@ -99,10 +99,6 @@ live ths = map (λ e. thread e.0) (filter is_live ths.records)
 
 -- ---- create
 
--- How many records there can be (docs/machine.md, "Thread records").
-abbrev pub most_records : ℕ
-most_records = 1024
-
 -- The attribute cell of a name that is there, and else `default`.
 abbrev pub attr_at : Threads → Option NameId → Option Attr
 attr_at ths None = Some new_attr
@@ -111,7 +107,7 @@ attr_at ths (Some a) = get ths.attrs a.0
 -- What a creation with this cell replies.
 abbrev pub create_reply : Threads → Option Attr → Reply
 create_reply ths None = reply.Einval
-create_reply ths (Some a) = if nat_lt (length ths.records) most_records then reply.Value (pos ths.next) else reply.Eagain
+create_reply ths (Some a) = if nat_lt (length ths.records) most then reply.Value (pos ths.next) else reply.Eagain
 
 -- The policy of a thread with this maker and this cell.
 abbrev pub policy_from : Option Thread → Attr → Policy

@@ -1,12 +1,12 @@
 //! The laws on the parts of the machine's state: each is a function that does nothing and whose contract is the law.
 
-ghost use Rattle.std.specs.Prelude.{◌≡◌, ◌↔◌, ℕ, ℤ, ◌+◌, ◌<◌, Bool, true, false, nat_lt, ◌==◌, if◌then◌else◌, List, [], ◌∷◌, length, slice_set, Option, Some, None};
+ghost use Rattle.std.specs.Prelude.{◌≡◌, ◌↔◌, ℕ, ℤ, ◌+◌, ◌<◌, ◌≤◌, Bool, true, false, nat_lt, ◌==◌, if◌then◌else◌, List, [], ◌∷◌, length, slice_set, Option, Some, None};
 ghost use Rattle.thr_values.specs.declared.number.Tid.{Tid};
 ghost use Rattle.thr_values.specs.declared.number.NameId.{NameId};
 ghost use Rattle.thr_parts.specs.declared.row.RowId.{RowId};
 ghost use Rattle.thr_parts.specs.declared.row.RowId.TheVariants as row;
 ghost use Rattle.thr_parts.specs.declared.row.Seat.{Seat};
-ghost use Rattle.thr_parts.specs.Tables.{Table, none, get, at, put, cut, present, IsCanonical};
+ghost use Rattle.thr_parts.specs.Tables.{Table, none, get, at, has, put, cut, present, IsCanonical};
 ghost use Rattle.thr_parts.specs.Rows.{Rows, seat_of, row_of, is_same_row, before, best, best_first, best_of, number_in, is_among};
 ghost use Rattle.thr_parts.specs.Moves.{put_in_row, take_out, leave, block_in, set_rank, make_ready, make_all_ready, free_row};
 ghost use Rattle.thr_parts.specs.Dispatch.{running, some_can_run, dispatch, keeps, is_outranked, is_matched};
@@ -43,6 +43,13 @@ pub fn tables_stay_canonical<A>()
         → put (present 0 xs) i v ≡ present 0 (slice_set xs i (Some v)) }
     ensures cut_item { (xs : List (Option A)) (i : ℕ) → i < length xs
         → cut (present 0 xs) i ≡ present 0 (slice_set xs i None) }
+{}
+
+/// Where each number of a table is one of another's, the table isn't longer than the other.
+#[tactic(auto, using(crate::proofs::LengthLaws::not_longer))]
+pub fn tables_of_fewer_numbers_are_not_longer<A, B>()
+    ensures { (m : Table A) (n : Table B) → IsCanonical m → IsCanonical n → ((q : ℕ) → has m q ≡ true → has n q ≡ true)
+        → length m ≤ length n }
 {}
 
 /// The best thread of a row stands in it, and no other thread of it comes before. A row has none exactly where nobody stands

@@ -18,10 +18,11 @@ use Rattle.thr_remainder.specs.Remainders.{Item, Role, Calling, Trying, Catching
 use Rattle.thr_remainder.specs.Expressions.{Value, SharedValues, none_shared, value_of}
 use Rattle.thr_remainder.specs.Starts.{fresh, begins, begins_once, begins_destructor}
 use Rattle.thr_remainder.specs.Steps.{stored, place_for, variable_set, or_raised, made, ended, step_at, quiet, shared_step}
-use Rattle.thr_remainder.specs.Outward.{Meeting, Drops, Begins, Undoes, Loses, meeting, at_try, caught_by, first_catch, met, outward_from, outward}
+use Rattle.thr_remainder.specs.Outward.{Meeting, Drops, Begins, Undoes, Loses, meeting, at_try, caught_by, first_catch, met, outward_from, outward, undone}
 use Rattle.thr_remainder.specs.Replies.{stored_in, raised_if, replied_by, replied_at, replied, raised_by}
 use Rattle.thr_remainder.specs.Calls.{stores}
 use Rattle.thr_remainder.specs.Scopes.{scope_of, IsBelow, bound, AreScopes, HasScopes}
+use Rattle.thr_remainder.proofs.StepsKept.{IsKeptBySteps}
 
 -- ---- lists of items
 
@@ -221,3 +222,22 @@ replied_keeps g y r has = replied_at_keeps g (place_in r.items) r y has (place_h
 
 pub fresh_has : (s : Script) (routine : NameId) (n : ℤ) → HasScopes (fresh s routine n)
 fresh_has s routine n = record { open_scopes = (tt, tt) }
+
+-- ---- all steps
+
+undone_keeps : (scope : ℕ) (i : Item) (u : Unwinding) (outer : List Item) (r : Remainder) → r.items ≡ i ∷ outer → HasScopes r → HasScopes (undone scope u outer r).to
+undone_keeps scope i u outer r e has = record { open_scopes = outside (r.scopes + 1) (scope_of i.role) outer (subst (AreScopes (r.scopes + 1)) e has.open_scopes) }
+
+pub scopes_are_kept : IsKeptBySteps (λ s. HasScopes)
+scopes_are_kept = record {
+  begins = fresh_has;
+  steps = quiet_keeps;
+  shares = shared_keeps;
+  goes = λ g u r e has. outward_keeps g u r has;
+  undoes = λ g scope block routine left u outer r e has. undone_keeps scope _ u outer r e has;
+  replies = replied_keeps;
+  runs = λ g block routine r after asks has more. once_keeps g block routine after more;
+  destroys = destructor_keeps;
+  raises = λ s x r has. record { open_scopes = has.open_scopes };
+  delivers = λ s r has. record { open_scopes = has.open_scopes };
+}

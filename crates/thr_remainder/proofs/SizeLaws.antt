@@ -8,13 +8,18 @@ use Rattle.thr_syntax.specs.declared.form.Form.{Form}
 use Rattle.thr_syntax.specs.declared.form.Form.TheVariants as form
 use Rattle.thr_syntax.specs.declared.tree.Clause.{Clause}
 use Rattle.thr_syntax.specs.declared.tree.Stmt.{Stmt, Set, Say, If, While, TryCatch, TryFinally, Raise, Reraise, Call, Return, Exit, Dce}
-use Rattle.thr_syntax.specs.Lines.{joined, stmt_lines, body_lines, stmt_step, clause_step}
+use Rattle.thr_syntax.specs.Lines.{joined, stmt_lines, body_lines, stmt_step, clause_step, clause_form}
 use Rattle.thr_syntax.proofs.FoldLaws.{each_clause, each_stmt-Set, each_stmt-Say, each_stmt-If, each_stmt-While, each_stmt-TryCatch, each_stmt-TryFinally, each_stmt-Raise, each_stmt-Reraise, each_stmt-Call, each_stmt-Return, each_stmt-Exit, each_stmt-Dce}
-use Rattle.thr_remainder.specs.Places.{size, body_size}
+use Rattle.thr_remainder.specs.Places.{size, body_size, clauses_size}
 
 -- The lines of clauses.
 abbrev pub clauses_lines : List Clause → List Form
 clauses_lines clauses = joined (map (each_clause stmt_step clause_step) clauses)
+
+pub clauses_size-is : (clauses : List Clause) → clauses_size clauses ≡ length (clauses_lines clauses)
+unfolding body_size
+clauses_size-is [] = refl
+clauses_size-is (c ∷ clauses) = omega (arith, clauses_size-is clauses, length-append (clause_form c.names ∷ body_lines c.body) (clauses_lines clauses))
 
 pub body_size-nil : body_size [] ≡ 0
 unfolding body_size

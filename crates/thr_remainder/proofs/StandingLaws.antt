@@ -64,7 +64,7 @@ module _ (text : List Form) where
   -- A body that the line below it closes.
   body_stands : (line : ℕ) (body : List Stmt) (ys : List Form) → StandAt text line (body_lines body ++ ys) → ClosesAt text (line + length (body_lines body)) → IsLeft text (body_at line body)
   unfolding body_size
-  body_stands line body ys h k = record { todo = placed_stand line body (first_lines line (body_lines body) ys h); close = k }
+  body_stands line body ys h k = record { todo = placed_then (placed line body) [] (placed_stand line body (first_lines line (body_lines body) ys h)) tt; close = k }
 
   -- What stands below a body.
   below_body : (line : ℕ) (body : List Stmt) (ys : List Form) → StandAt text line (body_lines body ++ ys) → StandAt text (line + length (body_lines body)) ys

@@ -31,12 +31,16 @@ interface_of s = interface_in s.items
 
 -- ---- exceptions
 
--- The exception that a name is declared as, if it is declared as one (docs/script.md, "Lines").
+-- The exception that this declaration declares a name as, if it does (docs/script.md, "Lines").
+abbrev pub exception_here : Item → NameId → Option Exc
+exception_here (item.Exception name) x = if is_same_name name x then Some (Address x) else None
+exception_here (item.Status name n) x = if is_same_name name x then Some (Status n) else None
+exception_here _ x = None
+
+-- The exception that a name is declared as among declarations, if it is declared as one (docs/script.md, "Lines").
 abbrev pub exception_in : List Item → NameId → Option Exc
 exception_in [] x = None
-exception_in (item.Exception name ∷ items) x = if is_same_name name x then Some (Address x) else exception_in items x
-exception_in (item.Status name n ∷ items) x = if is_same_name name x then Some (Status n) else exception_in items x
-exception_in (_ ∷ items) x = exception_in items x
+exception_in (i ∷ items) x = option_or (exception_here i x) (exception_in items x)
 
 -- The exception that a name stands for, built in or declared, and nothing where it stands for none (docs/machine.md,
 -- "Exceptions").

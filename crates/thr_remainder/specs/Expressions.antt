@@ -1,5 +1,5 @@
 -- The values of expressions, and their first faults (docs/script.md, "Expressions").
-use Rattle.std.specs.Prelude.{◌^◌, ℤ, pos, negsuc, ◌+ℤ◌, ◌-ℤ◌, ◌*ℤ◌, nat_lt, int_lt, int_le, int_div, int_rem, slice_get, unwrap_or, Bool, true, false, not, ◌&&◌, ◌||◌, ◌==◌, if◌then◌else◌, Result, Ok, Err}
+use Rattle.std.specs.Prelude.{ℕ, ◌^◌, ℤ, pos, negsuc, ◌+ℤ◌, ◌-ℤ◌, ◌*ℤ◌, nat_lt, int_lt, int_le, int_div, int_rem, slice_get, unwrap_or, Bool, true, false, not, ◌&&◌, ◌||◌, ◌==◌, if◌then◌else◌, List, Result, Ok, Err}
 use Rattle.std.specs.Ordering.{int_eq}
 use Rattle.thr_values.specs.declared.number.NameId.{NameId}
 use Rattle.thr_values.specs.declared.exception.Exc.{Exc}
@@ -14,6 +14,7 @@ use Rattle.thr_syntax.specs.declared.expr.Op.TheVariants as op
 use Rattle.thr_syntax.specs.declared.expr.Expr.{Expr}
 use Rattle.thr_syntax.specs.declared.expr.Expr.TheOpen.{Expr-F}
 use Rattle.thr_syntax.specs.declared.expr.Expr.TheOpen as one_expr
+use Rattle.thr_syntax.specs.declared.tree.Script.{Script}
 use Rattle.thr_syntax.specs.Folds.{each_expr}
 use Rattle.thr_remainder.specs.Declarations.{exception_value}
 use Rattle.thr_remainder.specs.Remainders.{Setting, Remainder, locals_in, caught_in}
@@ -88,12 +89,7 @@ abbrev pub status_of : Exc → ℤ
 status_of (Status n) = n
 status_of (Address a) = negsuc 0
 
--- The exception that a name stands for, or that `this` means (docs/script.md, "Expressions").
-abbrev pub exception_at : Setting → Remainder → ExcRef → Exc
-exception_at g r (Named name) = exception_value g.script name
-exception_at g r This = caught_in r.items
-
--- ---- values
+-- ---- what an expression sees
 
 -- The values of shared variables, by name.
 abbrev pub SharedValues : Type 0
@@ -103,22 +99,54 @@ SharedValues = NameId → ℤ
 abbrev pub none_shared : SharedValues
 none_shared name = pos 0
 
--- The value of a local of the innermost call, or of a shared variable (docs/script.md, "Expressions").
-abbrev pub variable_value : SharedValues → Remainder → Var → ℤ
-variable_value shared r (Local p) = unwrap_or (slice_get (locals_in r.items) p) (pos 0)
-variable_value shared r (Shared name) = shared name
+-- What an expression sees: the script, the thread's number, the locals of its innermost call, what was caught there, the
+-- number of its last reply, and the values of shared variables (docs/script.md, "Expressions").
+pub record Sight : Type 0 where
+  pub script : Script
+  pub me : ℕ
+  pub locals : List ℤ
+  pub caught : Exc
+  pub err : ℤ
+  pub shared : SharedValues
+
+-- The exception that a name stands for, or that `this` means (docs/script.md, "Expressions").
+abbrev pub exception_at : Sight → ExcRef → Exc
+exception_at sight (Named name) = exception_value sight.script name
+exception_at sight This = sight.caught
+
+-- The value of a local, or of a shared variable (docs/script.md, "Expressions").
+abbrev pub variable_value : Sight → Var → ℤ
+variable_value sight (Local p) = unwrap_or (slice_get sight.locals p) (pos 0)
+variable_value sight (Shared name) = sight.shared name
+
+-- ---- values
 
 -- One expression, whose operands have been valued.
-abbrev pub value_step : Setting → SharedValues → Remainder → Expr-F Value → Value
-value_step g shared r (one_expr.Num n) = Ok n
-value_step g shared r (one_expr.Var v) = Ok (variable_value shared r v)
-value_step g shared r one_expr.Me = Ok (pos g.me)
-value_step g shared r one_expr.Err = Ok r.err
-value_step g shared r (one_expr.Two o a b) = two_values o a b
-value_step g shared r (one_expr.Not a) = opposite a
-value_step g shared r (one_expr.GetStatus x) = Ok (status_of (exception_at g r x))
-value_step g shared r (one_expr.Matches x y) = Ok (truth (is_same (exception_at g r x) (exception_at g r y)))
+abbrev pub value_step : Sight → Expr-F Value → Value
+value_step sight (one_expr.Num n) = Ok n
+value_step sight (one_expr.Var v) = Ok (variable_value sight v)
+value_step sight one_expr.Me = Ok (pos sight.me)
+value_step sight one_expr.Err = Ok sight.err
+value_step sight (one_expr.Two o a b) = two_values o a b
+value_step sight (one_expr.Not a) = opposite a
+value_step sight (one_expr.GetStatus x) = Ok (status_of (exception_at sight x))
+value_step sight (one_expr.Matches x y) = Ok (truth (is_same (exception_at sight x) (exception_at sight y)))
 
--- The value of an expression, or its first fault from the left (docs/script.md, "Expressions").
-unfoldable pub value_of : Setting → SharedValues → Remainder → Expr → Value
-value_of g shared r e = each_expr (value_step g shared r) e
+-- The value of an expression that sees this, or its first fault from the left (docs/script.md, "Expressions").
+unfoldable pub value_in : Sight → Expr → Value
+value_in sight e = each_expr (value_step sight) e
+
+-- What an expression of a thread sees where this is left (docs/script.md, "Expressions").
+abbrev pub sight_of : Setting → SharedValues → Remainder → Sight
+sight_of g shared r = record {
+  script = g.script;
+  me = g.me;
+  locals = locals_in r.items;
+  caught = caught_in r.items;
+  err = r.err;
+  shared = shared;
+}
+
+-- The value of an expression there, or its first fault from the left (docs/script.md, "Expressions").
+abbrev pub value_of : Setting → SharedValues → Remainder → Expr → Value
+value_of g shared r e = value_in (sight_of g shared r) e

@@ -11,6 +11,7 @@ pub mod Steps
 pub mod Outward
 pub mod Replies
 pub mod Next
+pub mod Runs
 pub mod Alone
 pub mod Samples
 pub mod Computing

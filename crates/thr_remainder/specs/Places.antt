@@ -36,13 +36,13 @@ body_then line body rest = record { todo = placed line body ++ rest.todo; close 
 abbrev pub stmt_then : ℕ → Stmt → Left → Left
 stmt_then line s rest = record { todo = record { line = line; stmt = s } ∷ rest.todo; close = rest.close }
 
--- A body from this line on that the line after it closes.
-abbrev pub body_at : ℕ → List Stmt → Left
-body_at line body = record { todo = placed line body; close = line + body_size body }
-
 -- Nothing is left before the line that closes.
 abbrev pub nothing : ℕ → Left
 nothing close = record { todo = []; close = close }
+
+-- A body from this line on that the line after it closes.
+abbrev pub body_at : ℕ → List Stmt → Left
+body_at line body = body_then line body (nothing (line + body_size body))
 
 -- A catch clause: its line, the exception that it names, or none at `catch_all`, and its body (docs/machine.md, "Handlers").
 pub record Handler : Type 0 where
@@ -54,6 +54,11 @@ pub record Handler : Type 0 where
 pub data Ways : Type 0 where
   Catches : (handlers : List Handler) → Ways
   Finally : (body : Left) → Ways
+
+-- How many lines the clauses of a try have, each with its body (docs/script.md, "The canonical text").
+abbrev pub clauses_size : List Clause → ℕ
+clauses_size [] = 0
+clauses_size (c ∷ clauses) = 1 + body_size c.body + clauses_size clauses
 
 -- The catch clauses of a try, the first of which has this line.
 abbrev pub handlers_at : ℕ → List Clause → List Handler

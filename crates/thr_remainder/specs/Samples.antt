@@ -1,5 +1,5 @@
 -- Scripts and remainders for worked examples.
-use Rattle.std.specs.Prelude.{ℕ, zero, suc, ◌+◌, ℤ, pos, List, [], ◌∷◌, ◌++◌, map, reverse, codes, negsuc, take, replicate, Option, Some, None}
+use Rattle.std.specs.Prelude.{ℕ, zero, suc, ◌+◌, ℤ, pos, List, [], ◌∷◌, ◌++◌, map, reverse, codes, negsuc, take, replicate, Bool, Option, Some, None}
 use Rattle.thr_values.specs.declared.number.NameId.{NameId}
 use Rattle.thr_values.specs.declared.call.Arg.{Arg}
 use Rattle.thr_values.specs.declared.call.Arg.TheVariants as arg
@@ -8,6 +8,7 @@ use Rattle.thr_values.specs.declared.history.What.{What}
 use Rattle.thr_values.specs.declared.history.What.TheVariants as what
 use Rattle.thr_values.specs.declared.reply.Reply.{Reply}
 use Rattle.thr_values.specs.declared.reply.Reply.TheVariants as reply
+use Rattle.thr_values.specs.declared.scheduling.Mode.{Mode}
 use Rattle.thr_syntax.specs.declared.dce.DceCall.{DceCall}
 use Rattle.thr_syntax.specs.declared.expr.Var.{Var}
 use Rattle.thr_syntax.specs.declared.expr.Var.TheVariants.{Local, Shared}
@@ -163,12 +164,12 @@ delivery_after n s answers = (delivered (after_steps s answers n)).lines
 
 -- The value of an expression in thread 1, whose last reply had number 35, where the parameter is 7, a further local -8, and
 -- each shared variable the number of its name.
-abbrev pub value_in : Script → Expr → Value
-value_in s e =
+abbrev pub value_with : Script → Expr → Value
+value_with s e =
     value_of (setting_of 256 s) (λ name. pos name.0) (record { items = record { role = Calling (pos 7 ∷ negsuc 7 ∷ []) None; inside = nothing 9 } ∷ []; under_way = None; value = pos 0; err = pos 35; scopes = 0; unwindings = 0 }) e
 
 abbrev pub value : Expr → Value
-value e = value_in (script [] 0 []) e
+value e = value_with (script [] 0 []) e
 
 -- The greatest and the least number.
 abbrev pub greatest : Expr
@@ -179,6 +180,11 @@ least = expr.Num (negsuc 9223372036854775807)
 
 abbrev pub minus_one : Expr
 minus_one = expr.Num (negsuc 0)
+
+-- ---- cancels
+
+abbrev pub mode : Bool → Bool → Bool → Mode
+mode pending general asynchronous = record { pending = pending; general = general; asynchronous = asynchronous }
 
 -- ---- next steps
 

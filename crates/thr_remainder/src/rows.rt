@@ -2,6 +2,7 @@
 //! nothing and whose contract is the example.
 
 pub mod calls;
+pub mod cancels;
 pub mod declarations;
 pub mod expressions;
 pub mod handlers;

@@ -16,6 +16,7 @@ use Rattle.thr_remainder.specs.Remainders.{Setting, Remainder, Move, act_at, pla
 use Rattle.thr_remainder.specs.Starts.{fresh, raised, delivered, begins_destructor}
 use Rattle.thr_remainder.specs.Steps.{shared_step, written}
 use Rattle.thr_remainder.specs.Replies.{Values, asked, replied}
+use Rattle.thr_remainder.specs.Runs.{Halt, Delivers, Shares, Undoes, Completes, Ends, Pauses}
 use Rattle.thr_parts.specs.declared.row.RowId.TheVariants as row
 use Rattle.thr_parts.specs.declared.row.Seat.{Seat}
 use Rattle.thr_parts.specs.declared.wait.Wait.{Wait}
@@ -35,7 +36,6 @@ use Rattle.thr_parts.specs.OnceBlocks as once
 use Rattle.thr_parts.specs.Pipes.{read, write}
 use Rattle.thr_model.specs.States.{State, Debt, Return, Delivery, Running, rank_of, shared_values, with_remainder}
 use Rattle.thr_model.specs.Calls.{Answered, answered, ready_if, cancelled, given_state, signals_one, woken_state, first}
-use Rattle.thr_model.specs.Runs.{Halt, Delivers, Shares, Undoes, Completes, Ends, Pauses}
 use Rattle.thr_model.specs.Turns.{after_reply, called, written_to, shared_made, handed_on, freed, end_made, begun_at, debt_made, halt_made}
 use Rattle.thr_answers.specs.Statuses.{Status, Absent, Calm, Waiting, Astray, status_in, status_of, status_after}
 use Rattle.thr_answers.proofs.StatusMoves.{IsWith, with_known, with_put, with_cut, Becomes, Stays, becomes, becomes_again}

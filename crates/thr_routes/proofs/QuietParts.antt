@@ -14,8 +14,7 @@ use Rattle.thr_remainder.specs.Steps.{quiet}
 use Rattle.thr_remainder.specs.Outward.{outward}
 use Rattle.thr_remainder.specs.Next.{Next, next, next_by, next_outward, outward_or_undone, next_end, next_shared, next_at}
 use Rattle.thr_remainder.specs.Next as step
-use Rattle.thr_parts.specs.Cancels.{is_deliverable}
-use Rattle.thr_model.specs.Runs.{Halt, Delivers, Shares, Undoes, Completes, Ends, Pauses, Run, halts, pauses, or_delivers, goes_on, quiet_or_delivers, is_asynchronous, at_next, outward_move, run_of, after_lines}
+use Rattle.thr_remainder.specs.Runs.{is_deliverable, Halt, Delivers, Shares, Undoes, Completes, Ends, Pauses, Run, halts, pauses, or_delivers, goes_on, quiet_or_delivers, is_asynchronous, at_next, outward_move, run_of, after_lines}
 use Rattle.thr_routes.specs.Courses.{Outline, with_role, roles_in, outline, Course}
 use Rattle.thr_routes.specs.Courses as courses
 use Rattle.thr_routes.specs.Reaching.{Reached, quietly, outwardly, by_undoing, IsRight}

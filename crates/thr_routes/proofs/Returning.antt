@@ -52,10 +52,14 @@ then_clean : (todo rest : List Placed) → AreClean todo → AreClean rest → A
 then_clean [] rest h k = k
 then_clean (p ∷ todo) rest h k = (h.0, then_clean todo rest h.1 k)
 
+-- A body that the line below it closes.
+alone_clean : (line : ℕ) (body : List Stmt) → NoReturns (body_lines body) → IsClean (body_at line body)
+alone_clean line body h = then_clean (placed line body) [] (placed_clean line body h) tt
+
 handlers_clean : (clauses : List Clause) (line : ℕ) → NoReturns (clauses_lines clauses) → CleanHandlers (handlers_at line clauses)
 handlers_clean [] line h = tt
 handlers_clean (c ∷ clauses) line h =
-    (placed_clean (line + 1) c.body (first_none (body_lines c.body) (clauses_lines clauses) h.1), handlers_clean clauses (line + 1 + body_size c.body) (last_none (body_lines c.body) (clauses_lines clauses) h.1))
+    (alone_clean (line + 1) c.body (first_none (body_lines c.body) (clauses_lines clauses) h.1), handlers_clean clauses (line + 1 + body_size c.body) (last_none (body_lines c.body) (clauses_lines clauses) h.1))
 
 -- ---- acts
 
@@ -76,14 +80,14 @@ catching_clean : (line : ℕ) (body : List Stmt) (clauses : List Clause) → NoR
 catching_clean line body clauses h =
     let inside : NoReturns (form.Try ∷ (body_lines body ++ (clauses_lines clauses ++ form.Endtry ∷ []))) = subst NoReturns (each_stmt-TryCatch stmt_step clause_step body clauses) h in
     let rest : List Form = clauses_lines clauses ++ form.Endtry ∷ [] in
-    (placed_clean (line + 1) body (first_none (body_lines body) rest inside.1), handlers_clean clauses (line + 1 + body_size body) (first_none (clauses_lines clauses) (form.Endtry ∷ []) (last_none (body_lines body) rest inside.1)))
+    (alone_clean (line + 1) body (first_none (body_lines body) rest inside.1), handlers_clean clauses (line + 1 + body_size body) (first_none (clauses_lines clauses) (form.Endtry ∷ []) (last_none (body_lines body) rest inside.1)))
 
 finishing_clean : (line : ℕ) (body final : List Stmt) → NoReturns (stmt_lines (TryFinally body final)) → IsClean (body_at (line + 1) body) × CleanWays (Finally (body_at (line + 1 + body_size body + 1) final))
 finishing_clean line body final h =
     let rest : List Form = form.Finally ∷ (body_lines final ++ form.Endtry ∷ []) in
     let inside : NoReturns (form.Try ∷ (body_lines body ++ rest)) = subst NoReturns (each_stmt-TryFinally stmt_step clause_step body final) h in
     let below : NoReturns rest = last_none (body_lines body) rest inside.1 in
-    (placed_clean (line + 1) body (first_none (body_lines body) rest inside.1), placed_clean (line + 1 + body_size body + 1) final (first_none (body_lines final) (form.Endtry ∷ []) below.1))
+    (alone_clean (line + 1) body (first_none (body_lines body) rest inside.1), alone_clean (line + 1 + body_size body + 1) final (first_none (body_lines final) (form.Endtry ∷ []) below.1))
 
 abbrev ActClean : Stmt → Type 0
 ActClean s = (line : ℕ) (rest : Left) → NoReturns (stmt_lines s) → IsClean rest → IsCleanAct (act_of line s rest)

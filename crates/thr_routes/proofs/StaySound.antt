@@ -11,6 +11,7 @@ use Rattle.thr_syntax.specs.declared.tree.Script.{Script}
 use Rattle.thr_remainder.specs.Places.{Ways}
 use Rattle.thr_remainder.specs.Remainders.{Setting, Remainder}
 use Rattle.thr_remainder.specs.Starts.{fresh}
+use Rattle.thr_remainder.specs.Runs.{Run, run_of, most_steps}
 use Rattle.thr_parts.specs.declared.row.RowId.{RowId}
 use Rattle.thr_parts.specs.declared.row.RowId.TheVariants as row
 use Rattle.thr_parts.specs.declared.row.Seat.{Seat}
@@ -27,7 +28,6 @@ use Rattle.thr_laws.proofs.ReadingLaws.{AllLines}
 use Rattle.thr_laws.specs.Lines.{lines_of_thread}
 use Rattle.thr_model.specs.States.{State, Debt, rank_of, remainder_of, setting_of, debt_of, nothing_left, opening, main_of}
 use Rattle.thr_model.specs.Calls.{Gifts, answered}
-use Rattle.thr_model.specs.Runs.{Run, run_of, most_steps}
 use Rattle.thr_model.specs.Turns.{Made, gift_lines, turn_by, kept, is_fifo_in, turn_of}
 use Rattle.thr_model.specs.Events.{dispatch_made, clock_made, clock_to, clock_of, made_by}
 use Rattle.thr_model.specs.Histories.{History, opened, then_event}

@@ -26,6 +26,7 @@ use Rattle.thr_remainder.specs.Calls.{shape_of, arguments, stores}
 use Rattle.thr_remainder.specs.Starts.{still, fresh, raised, delivered, begins_once, begins_destructor}
 use Rattle.thr_remainder.specs.Steps.{shared_step, written}
 use Rattle.thr_remainder.specs.Replies.{Values, asked, is_timed_wait, raised_in, raised_by, raised_if, replied_by, replied_at, replied, stored_in}
+use Rattle.thr_remainder.specs.Runs.{Halt, Delivers, Shares, Undoes, Completes, Ends, Pauses, Run, run_of, most_steps}
 use Rattle.thr_values.specs.Replies.{errno_of}
 use Rattle.thr_values.specs.declared.exception.Exc.{Exc}
 use Rattle.thr_laws.specs.Lines.{lines_of_thread}
@@ -50,7 +51,6 @@ use Rattle.thr_parts.specs.Pipes.{read, write}
 use Rattle.thr_parts.proofs.TableLaws.{get_none, get_put, at_get}
 use Rattle.thr_model.specs.States.{State, Debt, Return, Delivery, Running, nothing_left, rank_of, remainder_of, setting_of, debt_of, shared_values, opening}
 use Rattle.thr_model.specs.Calls.{Answered, answered, cancelled, given_state, signals_one, woken_state, first}
-use Rattle.thr_model.specs.Runs.{Halt, Delivers, Shares, Undoes, Completes, Ends, Pauses, Run, run_of, most_steps}
 use Rattle.thr_model.specs.Turns.{Made, thread_line, gift_lines, moved, after_entries, runs_routine, runs_if, after_reply, with_stores, call_made, called, written_to, shared_made, handed_on, freed, end_made, begun_by, begun_at, debt_made, halt_made, run_made, turn_by, turn_of}
 use Rattle.thr_model.specs.Events.{dispatch_made, clock_to, clock_of, made_by}
 use Rattle.thr_routes.specs.Courses.{Outline, outline, at_rest, Course}

@@ -8,7 +8,7 @@ ghost use Rattle.thr_parts.specs.declared.row.RowId.TheVariants as row;
 ghost use Rattle.thr_parts.specs.declared.wait.Wait.TheVariants.{Cond, Delay};
 ghost use Rattle.thr_parts.specs.Tables.{none};
 ghost use Rattle.thr_parts.specs.Rows.{thread};
-ghost use Rattle.thr_parts.specs.Cancels.{setcancel, setasynccancel, waits_at_point, cancel, deliver, is_deliverable};
+ghost use Rattle.thr_parts.specs.Cancels.{setcancel, setasynccancel, waits_at_point, cancel, deliver};
 ghost use Rattle.thr_parts.specs.CancelledWaits.{cancel_wait};
 ghost use Rattle.thr_parts.specs.Mutexes.{no_locks};
 ghost use Rattle.thr_parts.specs.Conditions.{no_conds};
@@ -45,16 +45,6 @@ pub fn effects()
         ≡ record { reply = reply.Effect Pending; threads = threads ((1, in_mode 1 (mode true false true)) ∷ []) 2 } }
     ensures delivered { deliver (threads ((1, in_mode 1 (mode true true true)) ∷ []) 2) (thread 1)
         ≡ threads ((1, in_mode 1 (mode false true true)) ∷ []) 2 }
-{}
-
-/// A cancel can be delivered at a point, and anywhere with both cancelabilities on.
-#[tactic(auto, unfolding(crate::specs::Computing::parts_words))]
-pub fn deliverable_cancels()
-    ensures at_point { is_deliverable (mode true true false) true ≡ true }
-    ensures elsewhere { is_deliverable (mode true true false) false ≡ false }
-    ensures asynchronous { is_deliverable (mode true true true) false ≡ true }
-    ensures general_off { is_deliverable (mode true false true) true ≡ false }
-    ensures no_cancel { is_deliverable (mode false true true) true ≡ false }
 {}
 
 /// The rows whose waits are points.

@@ -6,7 +6,7 @@ ghost use Rattle.thr_syntax.specs.declared.expr.ExcRef.TheVariants.{Named, This}
 ghost use Rattle.thr_syntax.specs.declared.expr.Expr.TheVariants as expr;
 ghost use Rattle.thr_syntax.specs.declared.expr.Op.TheVariants as op;
 ghost use Rattle.thr_syntax.specs.declared.tree.Item.TheVariants as item;
-ghost use Rattle.thr_remainder.specs.Samples.{a, b, c, e, greatest, least, local, minus_one, named, num, script, shared, two, value, value_in, x};
+ghost use Rattle.thr_remainder.specs.Samples.{a, b, c, e, greatest, least, local, minus_one, named, num, script, shared, two, value, value_with, x};
 
 /// Sums, differences and products.
 #[tactic(auto, unfolding(crate::specs::Computing::remainder_words))]
@@ -97,18 +97,18 @@ pub fn names()
 /// The numbers of exceptions, and which match.
 #[tactic(auto, unfolding(crate::specs::Computing::remainder_words))]
 pub fn exceptions()
-    ensures status { value_in (script (item.Status a (negsuc 4) ∷ []) 0 []) (expr.GetStatus (Named a)) ≡ Ok (negsuc 4) }
-    ensures address { value_in (script (item.Status a (pos 5) ∷ item.Exception b ∷ []) 0 []) (expr.GetStatus (Named b))
+    ensures status { value_with (script (item.Status a (negsuc 4) ∷ []) 0 []) (expr.GetStatus (Named a)) ≡ Ok (negsuc 4) }
+    ensures address { value_with (script (item.Status a (pos 5) ∷ item.Exception b ∷ []) 0 []) (expr.GetStatus (Named b))
         ≡ Ok (negsuc 0) }
     ensures built_in { value (expr.GetStatus (Named (named 7))) ≡ Ok (negsuc 0) }
-    ensures itself { value_in (script (item.Exception a ∷ []) 0 []) (expr.Matches (Named a) (Named a)) ≡ Ok (pos 1) }
-    ensures two_addresses { value_in (script (item.Exception a ∷ item.Exception b
+    ensures itself { value_with (script (item.Exception a ∷ []) 0 []) (expr.Matches (Named a) (Named a)) ≡ Ok (pos 1) }
+    ensures two_addresses { value_with (script (item.Exception a ∷ item.Exception b
         ∷ []) 0 []) (expr.Matches (Named a) (Named b)) ≡ Ok (pos 0) }
-    ensures one_number { value_in (script (item.Status a (pos 5) ∷ item.Status b (pos 5)
+    ensures one_number { value_with (script (item.Status a (pos 5) ∷ item.Status b (pos 5)
         ∷ []) 0 []) (expr.Matches (Named a) (Named b)) ≡ Ok (pos 1) }
-    ensures two_numbers { value_in (script (item.Status a (pos 5) ∷ item.Status b (negsuc 5)
+    ensures two_numbers { value_with (script (item.Status a (pos 5) ∷ item.Status b (negsuc 5)
         ∷ []) 0 []) (expr.Matches (Named a) (Named b)) ≡ Ok (pos 0) }
-    ensures status_and_address { value_in (script (item.Status a (negsuc 0) ∷ item.Exception b
+    ensures status_and_address { value_with (script (item.Status a (negsuc 0) ∷ item.Exception b
         ∷ []) 0 []) (expr.Matches (Named a) (Named b)) ≡ Ok (pos 0) }
     ensures built_in_ones { value (expr.Matches (Named (named 7)) (Named (named 8))) ≡ Ok (pos 0) }
 {}

@@ -1,5 +1,5 @@
 -- The quiet part of a turn (docs/machine.md, "Turns").
-use Rattle.std.specs.Prelude.{ℕ, zero, suc, List, [], ◌∷◌, ◌++◌, Bool, true, false, ◌&&◌, if◌then◌else◌}
+use Rattle.std.specs.Prelude.{ℕ, zero, suc, List, [], ◌∷◌, ◌++◌, Bool, true, false, ◌&&◌, ◌||◌, if◌then◌else◌}
 use Rattle.thr_values.specs.declared.number.NameId.{NameId}
 use Rattle.thr_values.specs.declared.scheduling.Mode.{Mode}
 use Rattle.thr_values.specs.declared.history.What.{What}
@@ -8,7 +8,6 @@ use Rattle.thr_remainder.specs.Remainders.{Setting, Remainder, Move, Spot}
 use Rattle.thr_remainder.specs.Starts.{still}
 use Rattle.thr_remainder.specs.Next.{Next, next}
 use Rattle.thr_remainder.specs.Next as step
-use Rattle.thr_parts.specs.Cancels.{is_deliverable}
 
 -- What ends the quiet part of a turn, and with it the turn (docs/machine.md, "Turns").
 pub data Halt : Type 0 where
@@ -45,6 +44,10 @@ after_lines lines run = record { to = run.to; lines = lines ++ run.lines; halt =
 -- Both cancelabilities are on.
 abbrev pub is_asynchronous : Mode → Bool
 is_asynchronous m = m.general && m.asynchronous
+
+-- A cancel can be delivered to a thread whose next step is a point or isn't (docs/machine.md, "Cancels").
+abbrev pub is_deliverable : Mode → Bool → Bool
+is_deliverable m next_is_point = m.pending && m.general && (next_is_point || m.asynchronous)
 
 -- A cancel that can be delivered comes before the next step.
 abbrev pub or_delivers : Bool → Halt → Halt
