@@ -1,0 +1,90 @@
+-- The best of a row and the first on a processor, as the code finds them.
+use Rattle.std.proofs.Common.{◌≡◌, ℕ, ◌+◌, ◌-◌, ◌<◌, ◌≤◌, get_or, drop, Bool, true, false, ◌&&◌, ◌||◌, cond, ◌∷◌, length, Option, Some, None, IfSome, refl, sym, arith, ◌∙◌, ap, is_some}
+use Rattle.std.proofs.lemmas.List.{drop_more, drop_all}
+use Rattle.std.specs.List.{filter}
+use Rattle.thr_parts.specs.declared.row.RowId.{RowId}
+use Rattle.thr_parts.specs.declared.row.RowId.TheVariants as row
+use Rattle.thr_parts.specs.declared.row.Seat.{Seat}
+use Rattle.thr_parts.specs.Tables.{get, has, IsCanonical}
+use Rattle.thr_parts.specs.Rows.{Rows, Seated, place_in, better, best_of, standing, number_in, best}
+use Rattle.thr_parts.specs.Dispatch.{runs_on, first, running, is_outranked, is_matched, outranks, matches_rank}
+use Rattle.thr_parts.proofs.TableLaws.{has_get}
+use Rattle.thr_parts.proofs.EntryLaws.{pass, canonical_filter, get_filter}
+use Rattle.thr_parts.proofs.BestLaws.{best_empty, found}
+use Rattle.thr_parts.proofs.RowLaws.{standing_is}
+use Rattle.thr_parts.proofs.StandingLaws.{any_greater, any_equal}
+
+abbrev in_row : RowId → ℕ × Seat → Bool
+in_row r e = place_in r e.1.place
+
+best_cons : (e : ℕ × Seat) (es : Seated) → best_of (e ∷ es) ≡ Some (better e (best_of es))
+unfolding best_of
+best_cons e es = refl
+
+-- ---- the best and the first, entry by entry
+
+pub best_whole : (p : ℕ × Seat → Bool) (xs : Seated) (i : ℕ) → length xs ≤ i → None ≡ best_of (filter p (drop i xs))
+best_whole p xs i h = sym (ap (λ l. best_of (filter p l)) (drop_all i xs h) ∙ best_empty)
+
+pub best_taken : (p : ℕ × Seat → Bool) (xs : Seated) (i : ℕ) (d r : ℕ × Seat) (found : Option (ℕ × Seat)) → 0 < i → i ≤ length xs → p (get_or xs (i - 1) d) ≡ true
+    → found ≡ best_of (filter p (drop i xs)) → r ≡ better (get_or xs (i - 1) d) found → Some r ≡ best_of (filter p (drop (i - 1) xs))
+best_taken p xs i d r found a b is ih e =
+    let n : (i - 1) + 1 ≡ i = omega arith in
+    let x : ℕ × Seat = get_or xs (i - 1) d in
+    sym (ap (λ l. best_of (filter p l)) (drop_more xs (i - 1) d (omega arith) ∙ ap (λ k. x ∷ drop k xs) n)
+    ∙ ap (λ c. best_of (cond c (x ∷ filter p (drop i xs)) (filter p (drop i xs)))) is ∙ best_cons x (filter p (drop i xs))
+    ∙ ap (λ o. Some (better x o)) (sym ih) ∙ ap Some (sym e))
+
+pub best_passed : (p : ℕ × Seat → Bool) (xs : Seated) (i : ℕ) (d : ℕ × Seat) (found : Option (ℕ × Seat)) → 0 < i → i ≤ length xs → p (get_or xs (i - 1) d) ≡ false
+    → found ≡ best_of (filter p (drop i xs)) → found ≡ best_of (filter p (drop (i - 1) xs))
+best_passed p xs i d found a b is ih =
+    let n : (i - 1) + 1 ≡ i = omega arith in
+    let x : ℕ × Seat = get_or xs (i - 1) d in
+    sym (ap (λ l. best_of (filter p l)) (drop_more xs (i - 1) d (omega arith) ∙ ap (λ k. x ∷ drop k xs) n)
+    ∙ ap (λ c. best_of (cond c (x ∷ filter p (drop i xs)) (filter p (drop i xs)))) is ∙ sym ih)
+
+pub first_taken : (p : ℕ × Seat → Bool) (xs : Seated) (i : ℕ) (d : ℕ × Seat) → i < length xs → p (get_or xs i d) ≡ true → Some (get_or xs i d) ≡ first (filter p (drop i xs))
+first_taken p xs i d h is = sym (ap (λ l. first (filter p l)) (drop_more xs i d h) ∙ ap (λ c. first (cond c (get_or xs i d ∷ filter p (drop (i + 1) xs)) (filter p (drop (i + 1) xs)))) is)
+
+pub first_passed : (p : ℕ × Seat → Bool) (xs : Seated) (i : ℕ) (d : ℕ × Seat) → i < length xs → p (get_or xs i d) ≡ false → first (filter p (drop i xs)) ≡ first (filter p (drop (i + 1) xs))
+first_passed p xs i d h is = ap (λ l. first (filter p l)) (drop_more xs i d h) ∙ ap (λ c. first (cond c (get_or xs i d ∷ filter p (drop (i + 1) xs)) (filter p (drop (i + 1) xs)))) is
+
+pub first_none : (p : ℕ × Seat → Bool) (xs : Seated) (i : ℕ) → length xs ≤ i → first (filter p (drop i xs)) ≡ None
+first_none p xs i h = ap (λ l. first (filter p l)) (drop_all i xs h)
+
+-- ---- the best of a row
+
+pub best_standing : (rs : Rows) (r : RowId) (xs : Seated) (o : Option (ℕ × Seat)) → xs ≡ rs.seats → o ≡ best_of (filter (in_row r) xs) → o ≡ best_of (standing rs r)
+best_standing rs r xs o same e = e ∙ ap (λ l. best_of (filter (in_row r) l)) same ∙ sym (ap best_of (standing_is rs r))
+
+pub best_is : (rs : Rows) (r : RowId) (xs : Seated) (o : Option (ℕ × Seat)) → xs ≡ rs.seats → o ≡ best_of (filter (in_row r) xs) → number_in o ≡ best rs r
+best_is rs r xs o same e = ap number_in (best_standing rs r xs o same e)
+
+pub running_is : (rs : Rows) (p : ℕ) (xs : Seated) (o : Option (ℕ × Seat)) → xs ≡ rs.seats → o ≡ first (filter (λ (e : ℕ × Seat). runs_on p e.1.place) xs) → number_in o ≡ running rs p
+unfolding running
+running_is rs p xs o same e = ap number_in (e ∙ ap (λ l. first (filter (λ (e : ℕ × Seat). runs_on p e.1.place) l)) same)
+
+passed : (p : ℕ × Seat → Bool) (q : ℕ) (o : Option Seat) (s : Seat) → pass p q o ≡ Some s → is_some o ≡ true
+unfolding pass
+passed p q None s e = absurd (cc)
+passed p q (Some v) s e = refl
+
+-- The best is in the table.
+pub best_known : (xs : Seated) (r : RowId) (o : Option (ℕ × Seat)) → IsCanonical xs → o ≡ best_of (filter (in_row r) xs) → IfSome o (λ e. has xs e.0 ≡ true)
+best_known xs r None h e = tt
+best_known xs r (Some w) h e =
+    has_get xs w.0 ∙ passed (in_row r) w.0 (get xs w.0) w.1 (sym (get_filter (in_row r) w.0 xs h) ∙ found (filter (in_row r) xs) w (canonical_filter (in_row r) xs h) (sym e))
+
+-- ---- a rank beside those of the ready threads
+
+either : (a b c d s : Bool) → a ≡ b → (a ≡ false → c ≡ d) → (b || (s && d)) ≡ (a || (s && c))
+either true b c d s e f = ap (λ x. x || (s && d)) (sym e)
+either false b c d s e f = ap (λ x. x || (s && d)) (sym e) ∙ ap (λ x. s && x) (sym (f refl))
+
+-- A thread gives way as the best ready thread says.
+pub yields : (rs : Rows) (rank : ℕ) (spent : Bool) (o : Option (ℕ × Seat)) → o ≡ best_of (standing rs row.Ready)
+    → (outranks rank o || (spent && matches_rank rank o)) ≡ (is_outranked rs rank || (spent && is_matched rs rank))
+yields rs rank spent o e =
+    ap (λ (x : Option (ℕ × Seat)). outranks rank x || (spent && matches_rank rank x)) e
+    ∙ either (is_outranked rs rank) (outranks rank (best_of (standing rs row.Ready))) (is_matched rs rank) (matches_rank rank (best_of (standing rs row.Ready))) spent
+    (any_greater rank (standing rs row.Ready)) (any_equal rank (standing rs row.Ready))

@@ -1,0 +1,11 @@
+//! Rows and processors: where each thread stands, which is the best of a row, and who runs.
+#![tactic(auto)]
+
+mod places;
+mod rows;
+mod seats;
+mod slices;
+#[cfg(test)]
+mod tests;
+
+pub use rows::Rows;
