@@ -1,0 +1,4 @@
+pub mod RecordLaws
+pub mod CellLaws
+pub mod LivingLaws
+pub mod Crossing
