@@ -1,0 +1,4 @@
+pub mod ValueLaws
+pub mod KeyLaws
+pub mod CallLaws
+pub mod Crossing
