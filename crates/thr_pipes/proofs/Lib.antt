@@ -1,0 +1,9 @@
+pub mod AgreementLaws
+pub mod CallLaws
+pub mod ClosingLaws
+pub mod DeclaredLaws
+pub mod FreedLaws
+pub mod KeepLaws
+pub mod PipeLaws
+pub mod WriterLaws
+pub mod Crossing
