@@ -1,3 +1,6 @@
 //! By crate.
 
+mod conds;
 mod copies;
+mod onces;
+mod threads;
