@@ -1,0 +1,9 @@
+pub mod LayoutLaws
+pub mod RowLaws
+pub mod FormLaws
+pub mod Builds
+pub mod ItemLaws
+pub mod FitLaws
+pub mod ScriptLaws
+pub mod TableLaws
+pub mod Crossing
