@@ -1,0 +1,9 @@
+pub mod LocalLaws
+pub mod Sites
+pub mod Outcomes
+pub mod GoOns
+pub mod Statements
+pub mod Ends
+pub mod Unwinds
+pub mod PlaceLaws
+pub mod NextLaws
