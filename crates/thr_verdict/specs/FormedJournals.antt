@@ -17,7 +17,7 @@ use Rattle.thr_syntax.specs.declared.tree.Script.{Script}
 use Rattle.thr_syntax.specs.declared.journal.Journal.{Journal}
 use Rattle.thr_text.specs.declared.object.Object.TheVariants as object
 use Rattle.thr_text.specs.Reading.{Formed}
-use Rattle.thr_verdict.specs.Kinds.{is_name_of}
+use Rattle.thr_trees.specs.Kinds.{is_name_of}
 use Rattle.thr_verdict.specs.Places.{fits_32, fits_64, fits_signed, have_their_form}
 
 -- ---- who

@@ -1,7 +1,6 @@
 pub mod Report
 pub mod Verdicts
 pub mod Made
-pub mod Kinds
 pub mod Places
 pub mod FormedJournals
 pub mod FirstWrong

@@ -8,7 +8,7 @@ use Rattle.thr_syntax.specs.declared.tree.Script.{Script}
 use Rattle.thr_text.specs.declared.head.Slot.{Slot}
 use Rattle.thr_text.specs.declared.head.Slot.TheVariants.{Fixed, Object, ObjectOr, Variable, Expression}
 use Rattle.thr_text.specs.Slots.{call_slots, choice_words}
-use Rattle.thr_verdict.specs.Kinds.{is_name_of}
+use Rattle.thr_trees.specs.Kinds.{is_name_of}
 
 -- ---- numbers
 

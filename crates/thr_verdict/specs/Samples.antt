@@ -34,7 +34,7 @@ use Rattle.thr_syntax.specs.declared.tree.Script.{Script}
 use Rattle.thr_text.specs.declared.object.Object.{Object}
 use Rattle.thr_text.specs.declared.object.Object.TheVariants as object
 use Rattle.thr_verdict.specs.Report.{Counts, counts}
-use Rattle.thr_verdict.specs.Kinds.{is_name_of}
+use Rattle.thr_trees.specs.Kinds.{is_name_of}
 use Rattle.thr_verdict.specs.Places.{have_their_form}
 use Rattle.thr_verdict.specs.FormedJournals.{is_formed_line}
 

@@ -1,0 +1,16 @@
+pub mod Places
+pub mod Entries
+pub mod SameKinds
+pub mod BodyLines
+pub mod LineFacts
+pub mod SlotFacts
+pub mod NamedLines
+pub mod Declarations
+pub mod KindsAgree
+pub mod RoutinesFound
+pub mod LinesNamed
+pub mod SharedFound
+pub mod Few
+pub mod CaughtLines
+pub mod CatchBodies
+pub mod Distinct
