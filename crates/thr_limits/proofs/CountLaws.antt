@@ -94,3 +94,9 @@ few n lines count is counted = grind (arith, nat_tests)
 
 pub few_lines : (s : Script) (count : ℕ) → count ≡ capped (length (joined (map item_lines s.items))) → nat_lt count 20000 ≡ has_few_lines s
 few_lines s count counted = few (length (joined (map item_lines s.items))) (length (script_words s)) count (omega (arith, each_line_once s)) counted
+
+one_more : (n lines count : ℕ) → lines ≡ 1 + n → count ≡ capped n → capped (count + 1) ≡ capped lines
+one_more n lines count is counted = grind arith
+
+pub all_lines : (s : Script) (count : ℕ) → count ≡ capped (length (joined (map item_lines s.items))) → capped (count + 1) ≡ capped (length (script_words s))
+all_lines s count counted = one_more (length (joined (map item_lines s.items))) (length (script_words s)) count (omega (arith, each_line_once s)) counted

@@ -32,6 +32,7 @@ use Rattle.thr_reading.proofs.NamesRenumbered.{names_are_short}
 use Rattle.thr_reading.proofs.OneScript.{tree_lines, formed_nests, formed_words, own_spelled}
 use Rattle.thr_reading.proofs.ReadLaws.{words_numbered}
 use Rattle.thr_limits.specs.Limits.{has_few_lines, is_short_line, has_short_lines, has_name, has_few_names, greatest, stmt_depth, is_shallow, has_few_locals, is_in_range, within_limits}
+use Rattle.thr_limits.specs.Capped.{capped}
 use Rattle.thr_limits.proofs.LineLimits.{texts_words, is_line_in_range, names_in_line, AllKeep, lines_keep}
 use Rattle.thr_limits.proofs.LineDepths.{AreShallow, few_in_body}
 
@@ -54,6 +55,13 @@ few_lines s h =
     let numbered = numbered_lines 2 (own_lines s) in
     let own : List (List (List ℕ)) = joined (map (item_words s.names) s.items) in
     one_more (length (script_words s)) (length own) (length (own_lines s)) (omega arith) (names_are_short (length (own_lines s) + 2) numbered h.names_and_limits).0 (sym (length-map own (map word_of)))
+
+as_many : (n : ℕ) → nat_le n 20000 ≡ true → capped n ≡ n
+as_many n few = grind (arith, nat_tests)
+
+-- No count of the lines of a script that keeps the rules is cut.
+pub counted_whole : (s : Script) → Formed s → capped (length (script_words s)) ≡ length (script_words s)
+counted_whole s h = as_many (length (script_words s)) (few_lines s h)
 
 -- ---- short lines
 

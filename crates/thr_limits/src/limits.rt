@@ -4,8 +4,10 @@ ghost use Rattle.std.specs.Prelude.{◌≡◌, nat_le, length, map};
 ghost use Rattle.std.specs.List.{list_all, filter};
 ghost use Rattle.thr_syntax.specs.Lines.{joined, clause_form, stmt_lines, body_lines, head_lines, item_lines};
 ghost use Rattle.thr_syntax.specs.Spelling.{form_words, interface_word};
+ghost use Rattle.thr_syntax.specs.Canon.{script_words};
 ghost use Rattle.thr_syntax.specs.declared.form.Form.TheVariants as Form;
 ghost use Rattle.thr_syntax.specs.declared.tree.Item.TheVariants as Item;
+ghost use Rattle.thr_text.specs.Reading.{Formed};
 ghost use Rattle.thr_limits.specs.Limits as text;
 ghost use Rattle.thr_limits.specs.Capped.{capped};
 ghost use Rattle.thr_limits.specs.Walks.{opens_at_most, is_body_within, is_clause_within, clauses_lines, first_form, are_short, is_stmt_short, is_body_short, is_clause_short, is_item_short};
@@ -184,6 +186,14 @@ fn items_count(items: &[Item]) -> u32
         count = add(count, item_count(item));
     }
     count
+}
+
+/// How many lines the canonical text of a script has, as far as the type goes. A journal says it of its script.
+pub fn line_count(s: &Script) -> u32
+    ensures counted { result ≡ capped (length (script_words s.now)) }
+    ensures exact { Formed s.now → result ≡ length (script_words s.now) }
+{
+    add(items_count(s.items.as_slice()), 1)
 }
 
 /// Whether the canonical text has at most 20,000 lines.
