@@ -1,0 +1,2 @@
+pub mod OneThreadLaws
+pub mod SharedLaws

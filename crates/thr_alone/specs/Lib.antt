@@ -1,0 +1,3 @@
+pub mod OneThread
+pub mod OneTurn
+pub mod Opening
