@@ -1,6 +1,6 @@
 //! Devices in memory that give and take little at a time, and fail where they are told to.
 
-ghost use Rattle.std.specs.Prelude.{◌≡◌, ◌<◌, [], ◌++◌, length, drop, Some};
+ghost use Rattle.std.specs.Prelude.{◌≡◌, ◌<◌, ◌+◌, ◌-◌, ◌^◌, ◌↔◌, [], ◌++◌, length, drop, min, IsTrue, Contains, Some};
 
 use crate::fault::Failed;
 use crate::wire::{Sink, Source};
@@ -20,7 +20,10 @@ struct Schedule {
 impl Schedule {
     /// Counts one call, and answers whether it is to fail.
     fn fails_now(&mut self) -> bool
-        ensures { self.new.most ≡ self.old.most }
+        ensures most { self.new.most ≡ self.old.most }
+        ensures counts { self.new.calls ≡ min (self.old.calls + 1) (2 ^ 64 - 1) }
+        ensures listed { IsTrue result ↔ Contains self.old.failing.items self.old.calls }
+        ensures failing { self.new.failing ≡ self.old.failing }
     {
         let call = self.calls;
         self.calls = self.calls.saturating_add(1);

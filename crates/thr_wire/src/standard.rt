@@ -1,6 +1,6 @@
-//! Readers and writers of the standard library as a source and a sink: the trusted edge, of whose bytes nothing is told.
+//! Readers and writers of the standard library as a source and a sink: the trusted edge. They tell of their bytes what these tell.
 
-ghost use Rattle.std.specs.Prelude.{None};
+ghost use Rattle.std.specs.Prelude.{◌≡◌};
 
 use crate::fault::Failed;
 use crate::wire::{Sink, Source};
@@ -15,13 +15,15 @@ pub struct StdSource<R> {
 
 impl<R: Read> StdSource<R> {
     /// A source over the reader, which has had no fault.
-    pub fn new(reader: R) -> StdSource<R> {
+    pub fn new(reader: R) -> StdSource<R>
+        ensures { result.faults ≡ 0 }
+    {
         StdSource { reader, faults: 0 }
     }
 }
 
 impl<R: Read> Source for StdSource<R> {
-    ghost left = { λ _. None };
+    ghost left = { λ s. R.remaining s.reader };
 
     ghost faults = { λ s. s.faults };
 
@@ -45,13 +47,15 @@ pub struct StdSink<W> {
 
 impl<W: Write> StdSink<W> {
     /// A sink over the writer, which has had no fault.
-    pub fn new(writer: W) -> StdSink<W> {
+    pub fn new(writer: W) -> StdSink<W>
+        ensures { result.faults ≡ 0 }
+    {
         StdSink { writer, faults: 0 }
     }
 }
 
 impl<W: Write> Sink for StdSink<W> {
-    ghost held = { λ _. None };
+    ghost held = { λ s. W.contents s.writer };
 
     ghost faults = { λ s. s.faults };
 

@@ -25,6 +25,7 @@ pub fn read_all<S: Source>(alloc: Global, source: &mut S, max: u64) -> Result<Ve
     ensures only_long { IfSome (S.left source.old) (λ before. TookMoreThan max before (S.left source.new) → IsErrOf result WireFault.TooLong) }
     ensures at_most { TookAtMost (max + 1) (S.left source.old) (S.left source.new) }
     ensures later { S.faults source.old ≤ S.faults source.new }
+    ensures quiet { ¬ (IsErrOf result WireFault.ReadFault) → S.faults source.new ≡ S.faults source.old }
 {
     let mut bytes = Vec::new(alloc);
     let mut buf = [0u8; PIECE];
@@ -53,6 +54,7 @@ pub fn write_all<K: Sink>(sink: &mut K, bytes: &[u8]) -> Result<(), WriteFault>
     ensures prefix { OnErr result ((n : ℕ) × Appends (K.held sink.old) (K.held sink.new) (take n bytes.now)) }
     ensures cause { OnErr result (Rose (K.faults sink.old) (K.faults sink.new)) }
     ensures later { K.faults sink.old ≤ K.faults sink.new }
+    ensures quiet { OnOk result (K.faults sink.new ≡ K.faults sink.old) }
 {
     let mut at: usize = 0;
     while at < bytes.len() {

@@ -18,7 +18,8 @@ pub trait Source {
         requires { 0 < length buf.old }
         ensures bound { IfOk result (λ n. n ≤ length buf.new) }
         ensures bytes { ReadConsumes (left self.old) (left self.new) result buf.new }
-        ensures cause { HasCause (faults self.old) (faults self.new) result };
+        ensures cause { HasCause (faults self.old) (faults self.new) result }
+        ensures quiet { IfOk result (λ n. faults self.new ≡ faults self.old) };
 }
 
 /// Where bytes go. A write may take less than it is given, but never nothing.
@@ -34,5 +35,6 @@ pub trait Sink {
         ensures some { IfOk result (λ n. 0 < n) }
         ensures bound { IfOk result (λ n. n ≤ length bytes.now) }
         ensures bytes { WriteAppends (held self.old) (held self.new) result bytes.now }
-        ensures cause { HasCause (faults self.old) (faults self.new) result };
+        ensures cause { HasCause (faults self.old) (faults self.new) result }
+        ensures quiet { IfOk result (λ n. faults self.new ≡ faults self.old) };
 }

@@ -1,4 +1,4 @@
-use Rattle.std.proofs.Common.{◌≤◌, vec_len}
+use Rattle.std.proofs.Common.{◌≡◌, ◌≤◌, vec_len}
 use Rattle.std.specs.Io.KnownBytes.{Consumes}
 use Rattle.thr_wire.proofs.whole.read_all.Given as goal
 
@@ -8,4 +8,5 @@ invariant-loop g l = record {
   within : vec_len l.bytes ≤ l.max;
   counted : l.counter ≤ vec_len l.bytes;
   later : g.S.Source.faults l.fn.source ≤ g.S.Source.faults l.source;
+  quiet : g.S.Source.faults l.source ≡ g.S.Source.faults l.fn.source;
 }

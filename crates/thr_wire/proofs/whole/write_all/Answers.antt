@@ -12,4 +12,5 @@ loop-at-preserved g c =
       within = search rules;
       gained = gained-on _ _ _ c.args.bytes.now c.loop-at.at c.in-Ok.n c.loop-at.invariant.gained (rw same at c.in-Ok.ensures.bytes);
       later = search rules;
+      quiet = search rules;
     }
