@@ -7,14 +7,16 @@ use Rattle.thr_values.specs.declared.number.Tid.{Tid}
 use Rattle.thr_values.specs.declared.event.Event.{Event}
 use Rattle.thr_values.specs.declared.event.Stop.{Stop}
 use Rattle.thr_values.specs.declared.event.Stop.TheVariants as stops
+use Rattle.thr_values.specs.declared.history.Entry.{Entry}
 use Rattle.thr_syntax.specs.declared.tree.Script.{Script}
 use Rattle.thr_wire.specs.Bytes.{TookMoreThan, TookAll}
 use Rattle.thr_text.specs.Reading.{Formed}
-use Rattle.thr_machine.specs.Built.{first_unbuilt, IsBuilt, AreBuiltLines}
+use Rattle.thr_machine.specs.Built.{first_unbuilt}
 use Rattle.thr_model.specs.States.{State}
-use Rattle.thr_model.specs.Histories.{History, limit_of, stop_with, stop_at}
+use Rattle.thr_model.specs.Histories.{History, Legal, limit_of, stop_with, stop_at}
+use Rattle.thr_laws.specs.Routed.{Routed}
 use Rattle.thr_machine.proofs.BuiltScripts.{formed_scripts_say_numbers, formed_scripts_are_few}
-use Rattle.thr_machine.proofs.Short.{short-finishes, short-lines}
+use Rattle.thr_machine.proofs.Short.{short-finishes}
 use Rattle.thr_machine.specs.Views.{BookView}
 use Rattle.thr_machine.specs.Books.{IsReached, Makes, RoomOnly, stop_of}
 use Rattle.thr_top.specs.Driving.{IsFew, IsGoing, IsAtEnd, room_of}
@@ -69,11 +71,6 @@ few-finishes b why few r e =
     (subst (λ (s : Script). History s b.workers b.state r.events b.entries b.turns) few.same r.history)
     (subst (λ (s : Script). stop_at s b.state (length b.entries) ≡ Some why) few.same (sym e))
 
-pub few-lines : (b : BookView) → IsFew b.script → IsReached b → AreBuiltLines b.entries
-few-lines b few r =
-    short-lines few.parameter few.numbers b.workers b.state r.events b.entries b.turns
-    (subst (λ (s : Script). History s b.workers b.state r.events b.entries b.turns) few.same r.history)
-
 pub at-end : (b after : BookView) (why : Stop) → IsFew b.script → IsReached b → Some why ≡ stop_of b → after ≡ record b { stopped = Some why } → IsAtEnd after
 at-end b after why few r e is =
     subst IsAtEnd (sym is) (record { reached = record { events = r.events; history = r.history }; stopped = ap (λ (s : Stop). Some s) (few-finishes b why few r e) })
@@ -104,13 +101,15 @@ goes-further old mid new e going open_ same m =
       omega (arith, less, ap limit_of script, ap length lines, length-append old.entries m.made.lines, m.some),
     )
 
-pub few-built : (s : Script) → IsFew s → IsBuilt s
-few-built s few = record { parameter = few.parameter; numbers = few.numbers; same = few.same }
-
 pub few-of : (s : Script) → Formed s → first_unbuilt s ≡ None → IsFew s
 few-of s formed none =
     let b = formed_scripts_say_numbers s formed none in
     record { parameter = b.parameter; numbers = b.numbers; few = formed_scripts_are_few s b.parameter b.numbers formed b.same; same = b.same }
+
+-- A legal history of a script is routed, where the law says so of each script that keeps the rules.
+pub routed-of : ((s : Script) (n : ℕ) (es : List Entry) (stop : Stop) → Formed s → Legal s n es stop → Routed s es)
+    → (s told : Script) (n : ℕ) (es : List Entry) (stop : Stop) → Formed s → told ≡ s → Legal told n es stop → Routed s es
+routed-of law s told n es stop formed same legal = law s n es stop formed (subst (λ (x : Script). Legal x n es stop) same legal)
 
 pub not-memory : (stop : Stop) → stop ≡ stops.Finished → stop ≡ stops.Memory → ⊥
 not-memory stop e f = absurd (cc)

@@ -10,6 +10,7 @@ use Rattle.thr_syntax.specs.Canon.{canon}
 use Rattle.thr_text.specs.Faults.{first_of}
 use Rattle.thr_text.specs.Journals.{text}
 use Rattle.thr_text.specs.Reading.{Reads, faults}
+use Rattle.thr_laws.specs.Routed.{Routed}
 use Rattle.thr_machine.specs.Built.{first_unbuilt}
 use Rattle.thr_model.specs.Histories.{Legal}
 
@@ -65,9 +66,9 @@ pub data Refuses (input : List ℕ) (status : ℕ) (written : List ℕ) : Type 0
 
 -- This status and this text answer `run` with so many workers on this input.
 pub data RunAnswers (workers : ℕ) (input : List ℕ) (status : ℕ) (written : List ℕ) : Type 0 where
-  -- The journal of a legal history of the script, with the status of its stop.
+  -- The journal of a legal history of the script, in which each unwinding takes its route, with the status of its stop.
   ran : (s : Script) (entries : List Entry) (stop : Stop) → length input ≤ max_script → Reads input s → first_unbuilt s ≡ None → Legal s workers entries stop
-      → stop ≢ stops.Memory → status ≡ status_of stop → written ≡ text s workers entries stop → RunAnswers workers input status written
+      → Routed s entries → stop ≢ stops.Memory → status ≡ status_of stop → written ≡ text s workers entries stop → RunAnswers workers input status written
   -- The first line of the canonical text that the machine doesn't run yet.
   not_built : (s : Script) (line : ℕ) → length input ≤ max_script → Reads input s → first_unbuilt s ≡ Some line
       → status ≡ 2 → written ≡ unbuilt line → RunAnswers workers input status written

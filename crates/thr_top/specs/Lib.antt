@@ -1,3 +1,2 @@
 pub mod Driving
-pub mod Printing
 pub mod Answers

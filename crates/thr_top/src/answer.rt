@@ -16,6 +16,7 @@ use thr_wire::wire::Sink;
 pub fn give<K: Sink>(sink: &mut K, status: u8, text: &[u8]) -> Status
     ensures written { Writes (K.held sink.old) (K.held sink.new) result.0 status text.now }
     ensures cause { result.0 ≢ status → (result.0 ≡ 4) × Rose (K.faults sink.old) (K.faults sink.new) }
+    ensures quiet { result.0 ≢ 4 → K.faults sink.new ≡ K.faults sink.old }
 {
     match write_all(sink, text) {
         Ok(()) => Status(status),

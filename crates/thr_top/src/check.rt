@@ -27,6 +27,7 @@ pub(crate) fn refuse<K: Sink>(alloc: Global, place: Place, sink: &mut K) -> Stat
     ensures refused { (input : List ℕ) → length input ≤ max_script → (pass : ℕ) → first_of (faults input) ≡ Some (pass, place.line, place.number) → Ends (Refuses input) (K.held sink.old) (K.held sink.new) result.0 }
     ensures status { (result.0 ≡ 2) ⊎ ((result.0 ≡ 5) ⊎ (result.0 ≡ 4)) }
     ensures write { result.0 ≡ 4 → Rose (K.faults sink.old) (K.faults sink.new) }
+    ensures quiet { result.0 ≢ 4 → K.faults sink.new ≡ K.faults sink.old }
 {
     match refusal(alloc, place) {
         Ok(text) => give(sink, 2, text.as_bytes()),
@@ -39,6 +40,7 @@ fn check_script<K: Sink>(alloc: Global, script: &Script, sink: &mut K) -> Status
     ensures ends { (input : List ℕ) → length input ≤ max_script → Reads input script.now → Ends (CheckAnswers input) (K.held sink.old) (K.held sink.new) result.0 }
     ensures status { (result.0 ≡ 0) ⊎ ((result.0 ≡ 5) ⊎ (result.0 ≡ 4)) }
     ensures write { result.0 ≡ 4 → Rose (K.faults sink.old) (K.faults sink.new) }
+    ensures quiet { result.0 ≢ 4 → K.faults sink.new ≡ K.faults sink.old }
 {
     match print(alloc, script) {
         Ok(text) => give(sink, 0, text.as_slice()),
@@ -52,6 +54,7 @@ fn check_input<K: Sink>(alloc: Global, input: &[u8], sink: &mut K) -> Status
     ensures ends { Ends (CheckAnswers input.now) (K.held sink.old) (K.held sink.new) result.0 }
     ensures complete { IsScript input.now → (result.0 ≡ 0) ⊎ ((result.0 ≡ 5) ⊎ (result.0 ≡ 4)) }
     ensures write { result.0 ≡ 4 → Rose (K.faults sink.old) (K.faults sink.new) }
+    ensures quiet { result.0 ≢ 4 → K.faults sink.new ≡ K.faults sink.old }
     ensures known { (result.0 ≤ 5) × (result.0 ≢ 1) × (result.0 ≢ 3) }
 {
     match parse(alloc, input) {
@@ -88,6 +91,8 @@ pub fn plain_top<S: Source, K: Sink>(
     // Faults of the devices are their own.
     ensures read { result.0 ≡ 3 → Rose (S.faults source.old) (S.faults source.new) }
     ensures write { result.0 ≡ 4 → Rose (K.faults sink.old) (K.faults sink.new) }
+    ensures quiet_source { result.0 ≢ 3 → S.faults source.new ≡ S.faults source.old }
+    ensures quiet_sink { result.0 ≢ 4 → K.faults sink.new ≡ K.faults sink.old }
     ensures known { result.0 ≤ 5 }
 {
     if !asks_check(words) {

@@ -4,7 +4,6 @@
 mod answer;
 pub mod check;
 pub mod command;
-mod print;
 mod run;
 #[cfg(test)]
 mod tests;

@@ -3,12 +3,14 @@
 ghost use Rattle.std.specs.Prelude.{◌≡◌, ◌<◌, IfOk, OnOk, IsSome, None, Some, true, false, length};
 ghost use Rattle.thr_values.specs.declared.event.Stop.TheVariants as stops;
 ghost use Rattle.thr_text.specs.Reading.{Formed};
-ghost use Rattle.thr_machine.specs.Built.{first_unbuilt, AreBuiltLines};
+ghost use Rattle.thr_machine.specs.Built.{first_unbuilt};
+ghost use Rattle.thr_laws.specs.Routed.{Routed};
 ghost use Rattle.thr_model.specs.Histories.{Legal};
 ghost use Rattle.thr_top.specs.Driving.{IsGoing, IsAtEnd, room_of};
 
 use std::alloc::Global;
 use thr_machine::book::Book;
+use thr_routed::laws::each_unwinding_takes_its_route;
 use thr_syntax::journal::Journal;
 use thr_syntax::tree::Script;
 use thr_values::number::NoMemory;
@@ -48,11 +50,13 @@ pub fn history_of(alloc: Global, script: Script) -> Result<Journal, NoMemory>
     requires formed { Formed script }
     requires built { first_unbuilt script ≡ None }
     ensures legal { IfOk result (λ j. Legal script 1 j.entries j.stop) }
+    ensures routed { IfOk result (λ j. Routed script j.entries) }
     ensures stop { IfOk result (λ j. j.stop ≡ stops.Finished) }
-    ensures lines { IfOk result (λ j. AreBuiltLines j.entries) }
     ensures same { IfOk result (λ j. (j.script ≡ script) × (j.workers ≡ 1)) }
 {
     let mut book = Book::new(alloc, script, 1)?;
     drive(&mut book)?;
+    // The law by which what was made is routed.
+    each_unwinding_takes_its_route();
     Ok(book.into_journal())
 }

@@ -10,10 +10,10 @@ ghost use Rattle.thr_top.specs.Answers.{IsRunOne, IsCheck, IsCommand, IsScript, 
 use crate::answer::{give, unbuilt};
 use crate::check::{MAX_SCRIPT, plain_top, refuse};
 use crate::command::{Status, Word, needs_workers};
-use crate::print::journal_text;
 use crate::run::history_of;
 use std::alloc::Global;
 use thr_grammar::parse;
+use thr_journal::print;
 use thr_machine::unbuilt::first_unbuilt;
 use thr_syntax::tree::Script;
 use thr_text::fault::ParseFault;
@@ -29,11 +29,12 @@ fn run_script<K: Sink>(alloc: Global, script: Script, sink: &mut K) -> Status
     ensures ends { (input : List ℕ) → length input ≤ max_script → Reads input script → Ends (RunAnswers 1 input) (K.held sink.old) (K.held sink.new) result.0 }
     ensures status { (result.0 ≡ 0) ⊎ ((result.0 ≡ 5) ⊎ (result.0 ≡ 4)) }
     ensures write { result.0 ≡ 4 → Rose (K.faults sink.old) (K.faults sink.new) }
+    ensures quiet { result.0 ≢ 4 → K.faults sink.new ≡ K.faults sink.old }
 {
     let Ok(journal) = history_of(alloc, script) else {
         return Status(5);
     };
-    let Ok(text) = journal_text(alloc, &journal) else {
+    let Ok(text) = print(alloc, &journal) else {
         return Status(5);
     };
     give(sink, 0, text.as_slice())
@@ -44,6 +45,7 @@ fn refuse_unbuilt<K: Sink>(alloc: Global, line: Line, sink: &mut K) -> Status
     ensures ends { (input : List ℕ) (s : Script) → length input ≤ max_script → Reads input s → first_unbuilt s ≡ Some line.0 → Ends (RunAnswers 1 input) (K.held sink.old) (K.held sink.new) result.0 }
     ensures status { (result.0 ≡ 2) ⊎ ((result.0 ≡ 5) ⊎ (result.0 ≡ 4)) }
     ensures write { result.0 ≡ 4 → Rose (K.faults sink.old) (K.faults sink.new) }
+    ensures quiet { result.0 ≢ 4 → K.faults sink.new ≡ K.faults sink.old }
 {
     match unbuilt(alloc, line) {
         Ok(text) => give(sink, 2, text.as_bytes()),
@@ -57,6 +59,7 @@ fn run_built<K: Sink>(alloc: Global, script: Script, sink: &mut K) -> Status
     ensures ends { (input : List ℕ) → length input ≤ max_script → Reads input script → Ends (RunAnswers 1 input) (K.held sink.old) (K.held sink.new) result.0 }
     ensures complete { first_unbuilt script ≡ None → (result.0 ≡ 0) ⊎ ((result.0 ≡ 5) ⊎ (result.0 ≡ 4)) }
     ensures write { result.0 ≡ 4 → Rose (K.faults sink.old) (K.faults sink.new) }
+    ensures quiet { result.0 ≢ 4 → K.faults sink.new ≡ K.faults sink.old }
     ensures known { (result.0 ≤ 5) × (result.0 ≢ 1) × (result.0 ≢ 3) }
 {
     match first_unbuilt(&script) {
@@ -71,6 +74,7 @@ fn run_input<K: Sink>(alloc: Global, input: &[u8], sink: &mut K) -> Status
     ensures ends { Ends (RunAnswers 1 input.now) (K.held sink.old) (K.held sink.new) result.0 }
     ensures complete { IsRun input.now → (result.0 ≡ 0) ⊎ ((result.0 ≡ 5) ⊎ (result.0 ≡ 4)) }
     ensures write { result.0 ≡ 4 → Rose (K.faults sink.old) (K.faults sink.new) }
+    ensures quiet { result.0 ≢ 4 → K.faults sink.new ≡ K.faults sink.old }
     ensures known { (result.0 ≤ 5) × (result.0 ≢ 1) × (result.0 ≢ 3) }
 {
     match parse(alloc, input) {
@@ -90,6 +94,8 @@ fn run_one<S: Source, K: Sink>(alloc: Global, source: &mut S, sink: &mut K) -> S
         → (result.0 ≡ 0) ⊎ (result.0 ≡ 5)) }
     ensures read { result.0 ≡ 3 → Rose (S.faults source.old) (S.faults source.new) }
     ensures write { result.0 ≡ 4 → Rose (K.faults sink.old) (K.faults sink.new) }
+    ensures quiet_source { result.0 ≢ 3 → S.faults source.new ≡ S.faults source.old }
+    ensures quiet_sink { result.0 ≢ 4 → K.faults sink.new ≡ K.faults sink.old }
     ensures known { (result.0 ≤ 5) × (result.0 ≢ 1) }
 {
     match read_all(alloc, source, MAX_SCRIPT) {
@@ -135,6 +141,8 @@ pub fn top<S: Source, K: Sink>(
     // Faults of the devices are their own.
     ensures read { result.0 ≡ 3 → Rose (S.faults source.old) (S.faults source.new) }
     ensures write { result.0 ≡ 4 → Rose (K.faults sink.old) (K.faults sink.new) }
+    ensures quiet_source { result.0 ≢ 3 → S.faults source.new ≡ S.faults source.old }
+    ensures quiet_sink { result.0 ≢ 4 → K.faults sink.new ≡ K.faults sink.old }
     ensures known { result.0 ≤ 5 }
 {
     if needs_workers(words) {

@@ -1,6 +1,6 @@
-use Rattle.std.proofs.Common.{◌≡◌, sym, ◌∙◌, subst}
+use Rattle.std.proofs.Common.{sym, subst, ◌∙◌}
 use Rattle.thr_top.specs.Driving.{IsFew}
-use Rattle.thr_top.proofs.Endings.{few-of, few-lines}
+use Rattle.thr_top.proofs.Endings.{few-of, routed-of}
 use Rattle.thr_top.proofs.run.history_of.Goals as goal
 
 pub drive-requires : goal.drive-requires
@@ -10,7 +10,7 @@ drive-requires c = record {
   going = c.in_ok-book.ensures.stopped;
 }
 
-pub returns-clause-lines : goal.returns-clause-lines
-returns-clause-lines c =
-    let same : c.drive.new.book.script ≡ c.args.script = c.in_ok-drive.ensures.same.0 ∙ c.in_ok-book.ensures.script in
-    rw c.into_journal.ensures.entries (few-lines c.drive.new.book (subst IsFew (sym same) (few-of c.args.script c.requires.formed c.requires.built)) c.in_ok-drive.ensures.over.reached)
+pub returns-clause-routed : goal.returns-clause-routed
+returns-clause-routed c =
+    routed-of c.each_unwinding_takes_its_route.ensures c.args.script c.into_journal.result.script c.into_journal.result.workers c.into_journal.result.entries c.into_journal.result.stop
+    c.requires.formed (c.into_journal.ensures.script ∙ c.in_ok-drive.ensures.same.0 ∙ c.in_ok-book.ensures.script) c.into_journal.ensures.legal

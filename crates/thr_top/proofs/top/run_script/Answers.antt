@@ -1,23 +1,19 @@
-use Rattle.std.proofs.Common.{refl, ◌∙◌, ap, sym, subst, ℕ}
+use Rattle.std.proofs.Common.{refl, ◌∙◌, ap, ℕ}
 use Rattle.thr_syntax.specs.declared.tree.Script.{Script}
 use Rattle.thr_text.specs.Journals.{text}
-use Rattle.thr_machine.specs.Built.{IsBuilt}
 use Rattle.thr_top.specs.Answers.{RunAnswers, answered, ran}
-use Rattle.thr_top.proofs.Endings.{ends-no-memory, no-memory-run, not-memory, few-of, few-built}
+use Rattle.thr_top.proofs.Endings.{ends-no-memory, no-memory-run, not-memory}
 use Rattle.thr_top.proofs.top.run_script.Goals as goal
 
 pub returns-in_default-clause-ends : goal.returns-in_default-clause-ends
 returns-in_default-clause-ends g c = λ input short reads. ends-no-memory (RunAnswers 1 input) _ (no-memory-run input)
 
-pub returns-in_default-journal_text-clause-ends : goal.returns-in_default-journal_text-clause-ends
-returns-in_default-journal_text-clause-ends g c = λ input short reads. ends-no-memory (RunAnswers 1 input) _ (no-memory-run input)
+pub returns-in_default-print-clause-ends : goal.returns-in_default-print-clause-ends
+returns-in_default-print-clause-ends g c = λ input short reads. ends-no-memory (RunAnswers 1 input) _ (no-memory-run input)
 
 pub returns-clause-ends : goal.returns-clause-ends
 returns-clause-ends g c = λ input short reads.
     let finished = c.in-Ok.ensures.stop in
-    answered _ _ (ran c.args.script c.in-Ok.journal.entries c.in-Ok.journal.stop short reads c.requires.built c.in-Ok.ensures.legal (not-memory _ finished) (rw finished refl)
-    (c.as_slice.ensures.value ∙ c.in-Ok-journal_text.ensures ∙ ap (λ (s : Script). text s c.in-Ok.journal.workers c.in-Ok.journal.entries c.in-Ok.journal.stop) c.in-Ok.ensures.same.0
+    answered _ _ (ran c.args.script c.in-Ok.journal.entries c.in-Ok.journal.stop short reads c.requires.built c.in-Ok.ensures.legal c.in-Ok.ensures.routed (not-memory _ finished) (rw finished refl)
+    (c.as_slice.ensures.value ∙ c.in-Ok-print.ensures ∙ ap (λ (s : Script). text s c.in-Ok.journal.workers c.in-Ok.journal.entries c.in-Ok.journal.stop) c.in-Ok.ensures.same.0
     ∙ ap (λ (w : ℕ). text c.args.script w c.in-Ok.journal.entries c.in-Ok.journal.stop) c.in-Ok.ensures.same.1)) c.give.ensures.written
-
-pub journal_text-requires-clause-script : goal.journal_text-requires-clause-script
-journal_text-requires-clause-script g c = subst IsBuilt (sym c.in-Ok.ensures.same.0) (few-built c.args.script (few-of c.args.script c.requires.formed c.requires.built))
