@@ -72,6 +72,13 @@ impl Lines {
         &self.script
     }
 
+    /// The script, which is given back where its lines are wanted no longer.
+    pub fn into_script(self) -> Script
+        ensures { result ≡ self }
+    {
+        self.script
+    }
+
     /// How many lines there are, from line 1 on.
     pub fn len(&self) -> u32
         ensures count { result ≡ length (lines_of self.now) }
