@@ -126,7 +126,7 @@ StepsAnyhow s old new before after = (tells : Bool) (shared : SharedValues) → 
 
 -- ---- routines
 
--- A routine that can be called: it is declared, and has at most 16 locals (docs/script.md, "Limits").
+-- A routine that can be called: it is declared, and has at most 16 locals (docs/script.md, "Faults").
 pub record IsRoutine (s : Script) (name : NameId) : Type 0 where
   pub entry : declarations.Entry
   pub declared : routine_of s name ≡ Some entry

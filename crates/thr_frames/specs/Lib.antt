@@ -1,0 +1,4 @@
+pub mod Stacks
+pub mod Runs
+pub mod Passes
+pub mod Replies
