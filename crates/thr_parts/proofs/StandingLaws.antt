@@ -153,7 +153,7 @@ outranked_by_best rs rank w s h e is =
 pub outranked_by_nobody : (rs : Rows) (rank : ℕ) → best rs row.Ready ≡ None → is_outranked rs rank ≡ false
 outranked_by_nobody rs rank e = any_greater rank (standing rs row.Ready) ∙ ap (outranks rank) (no_number _ e)
 
--- Where it isn't, a ready thread has matches_rank rank where the best has.
+-- Where it isn't, a ready thread has this rank exactly where the best has.
 pub matched_by_best : (rs : Rows) (rank : ℕ) (w : Tid) (s : Seat) → IsCanonical rs.seats → best rs row.Ready ≡ Some w → seat_of rs w ≡ Some s
     → is_outranked rs rank ≡ false → is_matched rs rank ≡ (s.rank == rank)
 matched_by_best rs rank w s h e is out =

@@ -1,6 +1,7 @@
 //! Devices in memory that have no faults of their own.
 
-ghost use Rattle.std.specs.Prelude.{◌≡◌, [], ◌++◌, length, drop, Some};
+ghost use Rattle.std.specs.Prelude.{◌≡◌, ◌≤◌, [], ◌++◌, length, drop, Some, IfOk, OnOk, OnErr};
+ghost use Rattle.thr_wire.specs.Causes.{next_count};
 
 use crate::fault::Failed;
 use crate::wire::{Sink, Source};
@@ -83,7 +84,15 @@ impl Sink for GoodSink {
 
     ghost faults = { λ s. s.faults };
 
-    fn write(&mut self, bytes: &[u8]) -> Result<usize, Failed> {
+    fn write(&mut self, bytes: &[u8]) -> Result<usize, Failed>
+        // It takes all that it is given, or for want of memory nothing.
+        ensures all { IfOk result (λ n. n ≡ length bytes.now) }
+        ensures gained { OnOk result (self.new.bytes ≡ self.old.bytes ++ bytes.now) }
+        ensures untouched { OnErr result (self.new.bytes ≡ self.old.bytes) }
+        ensures later { self.old.faults ≤ self.new.faults }
+        ensures quiet { OnOk result (self.new.faults ≡ self.old.faults) }
+        ensures rises { OnErr result (self.new.faults ≡ next_count self.old.faults) }
+    {
         match self.bytes.extend_from_slice(bytes) {
             Ok(()) => Ok(bytes.len()),
             Err(_) => {

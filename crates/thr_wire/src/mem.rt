@@ -1,6 +1,9 @@
 //! Devices in memory that give and take little at a time, and fail where they are told to.
 
-ghost use Rattle.std.specs.Prelude.{◌≡◌, ◌<◌, ◌+◌, ◌-◌, ◌^◌, ◌↔◌, [], ◌++◌, length, drop, min, IsTrue, Contains, Some};
+ghost use Rattle.std.specs.Prelude.{◌≡◌, ◌<◌, ◌≤◌, ◌↔◌, [], length, min, IsTrue, Contains, Some, IfOk, OnOk, OnErr, IsErr};
+ghost use Rattle.std.specs.Io.KnownBytes.{ReadConsumes, WriteAppends};
+ghost use Rattle.thr_wire.specs.Causes.{next_count};
+ghost use Rattle.thr_wire.specs.Devices.{IsToFail, after_call};
 
 use crate::fault::Failed;
 use crate::wire::{Sink, Source};
@@ -21,7 +24,7 @@ impl Schedule {
     /// Counts one call, and answers whether it is to fail.
     fn fails_now(&mut self) -> bool
         ensures most { self.new.most ≡ self.old.most }
-        ensures counts { self.new.calls ≡ min (self.old.calls + 1) (2 ^ 64 - 1) }
+        ensures counts { self.new.calls ≡ next_count self.old.calls }
         ensures listed { IsTrue result ↔ Contains self.old.failing.items self.old.calls }
         ensures failing { self.new.failing ≡ self.old.failing }
     {
@@ -31,7 +34,7 @@ impl Schedule {
     }
 }
 
-/// A source over bytes in memory. Contracts see the bytes that are left and how often it has failed.
+/// A source over bytes in memory. Contracts see the bytes that are left, how often it has failed, and its schedule.
 #[derive(Drop)]
 pub struct MemSource {
     bytes: Vec<u8>,
@@ -42,11 +45,15 @@ pub struct MemSource {
 
 impl Model for MemSource {
     ghost use Rattle.std.specs.Prelude.{drop, ◌≤◌, ◌<◌, vec_len};
-    ghost use Rattle.thr_wire.specs.Devices.{Device};
+    ghost use Rattle.thr_wire.specs.Devices.{CallSchedule, MemDevice};
 
-    ghost Value = { Device };
+    ghost Value = { MemDevice };
 
-    ghost view = { λ s. record { bytes = drop s.at s.bytes.items; faults = s.faults } };
+    ghost view = { λ s. record {
+      bytes = drop s.at s.bytes.items;
+      faults = s.faults;
+      schedule = record { failing = s.schedule.failing.items; most = s.schedule.most; calls = s.schedule.calls };
+    } };
 
     ghost invariant = { λ s. (s.at ≤ vec_len s.bytes) × (0 < s.schedule.most) };
 }
@@ -56,7 +63,11 @@ impl MemSource {
     /// 0 on, fail.
     pub fn new(bytes: Vec<u8>, most: usize, failing: Vec<u64>) -> MemSource
         requires { 0 < most }
-        ensures { result ≡ record { bytes = bytes.items; faults = 0 } }
+        ensures { result ≡ record {
+          bytes = bytes.items;
+          faults = 0;
+          schedule = record { failing = failing.items; most = most; calls = 0 };
+        } }
     {
         MemSource {
             bytes,
@@ -71,7 +82,9 @@ impl MemSource {
     }
 
     /// How many calls there were.
-    pub fn calls(&self) -> u64 {
+    pub fn calls(&self) -> u64
+        ensures { result ≡ self.now.schedule.calls }
+    {
         self.schedule.calls
     }
 }
@@ -81,7 +94,18 @@ impl Source for MemSource {
 
     ghost faults = { λ s. s.faults };
 
-    fn read(&mut self, buf: &mut [u8]) -> Result<usize, Failed> {
+    fn read(&mut self, buf: &mut [u8]) -> Result<usize, Failed>
+        // A call fails exactly where it is listed, and gives else what is left, as far as there is room and up to the most.
+        ensures listed { IsErr result ↔ IsToFail self.old.schedule }
+        ensures moved { IfOk result (λ n. n ≡ min (min (length self.old.bytes) (length buf.new)) self.old.schedule.most) }
+        ensures bytes { ReadConsumes (Some self.old.bytes) (Some self.new.bytes) result buf.new }
+
+        // Each call is counted, and each fault.
+        ensures counts { self.new.schedule ≡ after_call self.old.schedule }
+        ensures later { self.old.faults ≤ self.new.faults }
+        ensures quiet { OnOk result (self.new.faults ≡ self.old.faults) }
+        ensures rises { OnErr result (self.new.faults ≡ next_count self.old.faults) }
+    {
         if self.schedule.fails_now() {
             self.faults = self.faults.saturating_add(1);
             return Err(Failed);
@@ -94,7 +118,7 @@ impl Source for MemSource {
     }
 }
 
-/// A sink in memory. Contracts see what it holds and how often it has failed.
+/// A sink in memory. Contracts see what it holds, how often it has failed, and its schedule.
 #[derive(Drop)]
 pub struct MemSink {
     bytes: Vec<u8>,
@@ -104,11 +128,15 @@ pub struct MemSink {
 
 impl Model for MemSink {
     ghost use Rattle.std.specs.Prelude.{◌<◌};
-    ghost use Rattle.thr_wire.specs.Devices.{Device};
+    ghost use Rattle.thr_wire.specs.Devices.{CallSchedule, MemDevice};
 
-    ghost Value = { Device };
+    ghost Value = { MemDevice };
 
-    ghost view = { λ s. record { bytes = s.bytes.items; faults = s.faults } };
+    ghost view = { λ s. record {
+      bytes = s.bytes.items;
+      faults = s.faults;
+      schedule = record { failing = s.schedule.failing.items; most = s.schedule.most; calls = s.schedule.calls };
+    } };
 
     ghost invariant = { λ s. 0 < s.schedule.most };
 }
@@ -118,7 +146,11 @@ impl MemSink {
     /// and so does a call that finds no memory.
     pub fn new(alloc: Global, most: usize, failing: Vec<u64>) -> MemSink
         requires { 0 < most }
-        ensures { result ≡ record { bytes = []; faults = 0 } }
+        ensures { result ≡ record {
+          bytes = [];
+          faults = 0;
+          schedule = record { failing = failing.items; most = most; calls = 0 };
+        } }
     {
         MemSink {
             bytes: Vec::new(alloc),
@@ -143,7 +175,21 @@ impl Sink for MemSink {
 
     ghost faults = { λ s. s.faults };
 
-    fn write(&mut self, bytes: &[u8]) -> Result<usize, Failed> {
+    fn write(&mut self, bytes: &[u8]) -> Result<usize, Failed>
+        requires { 0 < length bytes.now }
+
+        // A call that is listed fails, and so may one that finds no memory; else it takes what it is given, up to the most.
+        ensures listed { IsToFail self.old.schedule → IsErr result }
+        ensures some { IfOk result (λ n. 0 < n) }
+        ensures moved { IfOk result (λ n. n ≡ min (length bytes.now) self.old.schedule.most) }
+        ensures bytes { WriteAppends (Some self.old.bytes) (Some self.new.bytes) result bytes.now }
+
+        // Each call is counted, and each fault.
+        ensures counts { self.new.schedule ≡ after_call self.old.schedule }
+        ensures later { self.old.faults ≤ self.new.faults }
+        ensures quiet { OnOk result (self.new.faults ≡ self.old.faults) }
+        ensures rises { OnErr result (self.new.faults ≡ next_count self.old.faults) }
+    {
         let n = bytes.len().min(self.schedule.most);
         if self.schedule.fails_now() || self.bytes.extend_from_slice(&bytes[..n]).is_err() {
             self.faults = self.faults.saturating_add(1);

@@ -16,7 +16,7 @@ pub struct StdSource<R> {
 impl<R: Read> StdSource<R> {
     /// A source over the reader, which has had no fault.
     pub fn new(reader: R) -> StdSource<R>
-        ensures { result.faults ≡ 0 }
+        ensures { ⟦<StdSource<R> as Source>⟧.faults result ≡ 0 }
     {
         StdSource { reader, faults: 0 }
     }
@@ -48,7 +48,7 @@ pub struct StdSink<W> {
 impl<W: Write> StdSink<W> {
     /// A sink over the writer, which has had no fault.
     pub fn new(writer: W) -> StdSink<W>
-        ensures { result.faults ≡ 0 }
+        ensures { ⟦<StdSink<W> as Sink>⟧.faults result ≡ 0 }
     {
         StdSink { writer, faults: 0 }
     }
