@@ -46,7 +46,7 @@ use Rattle.thr_model.specs.States.{State, nothing_left, Debt, Return, Delivery, 
 use Rattle.thr_model.specs.Calls.{Gifts, Answered, answered}
 use Rattle.thr_model.specs.Turns.{Made, thread_line, gift_lines, runs_routine, runs_if, after_reply, called, written_to, shared_made, end_made, begun_by, begun_at, debt_made, halt_made, run_made, turn_by, kept, is_fifo_in, turn_of, handed_on}
 use Rattle.thr_model.specs.Events.{dispatch_made, clock_to, clock_of, made_by}
-use Rattle.thr_model.specs.Histories.{History, opened, then_event, Legal, StopsWith, stop_at, stop_with, goes_on, limit_of}
+use Rattle.thr_model.specs.Histories.{Execution, History, opened, then_event, Legal, StopsWith, stop_at, stop_with, goes_on, limit_of}
 use Rattle.thr_values.specs.declared.event.Stop.TheVariants as stops
 use Rattle.std.specs.List.{filter}
 use Rattle.thr_parts.specs.declared.thread.Thread.{Thread}
@@ -588,9 +588,9 @@ opening_agrees s = record {
 }
 
 -- In every history the lines agree with the state.
-pub agrees : {s : Script} {n : ℕ} {st : State} {events : List Event} {entries : List Entry} {turns : ℕ} → History s n st events entries turns → Agrees s st entries
+pub agrees : {s : Script} {n : ℕ} {x : Execution} → History s n x → Agrees s x.state x.entries
 agrees {s} opened = opening_agrees s
-agrees {s} {n} (then_event {st} {events} {entries} h open_ e made m) = made_agrees s entries n st e made (history_canonical h) (left-stands h) (agrees h) m
+agrees {s} {n} (then_event {x} h open_ e made m) = made_agrees s x.entries n x.state e made (history_canonical h) (left-stands h) (agrees h) m
 
 -- ---- the end of a history
 
@@ -630,10 +630,10 @@ end_answered s st entries stops.Memory t a h = refl
 
 -- So in every legal history each call that waits is answered once.
 pub legal-answered : {s : Script} {n : ℕ} {entries : List Entry} {stop : Stop} → Legal s n entries stop → CallsOnce s entries stop
-legal-answered {s} {n} {entries} {stop} h = let a : Agrees s h.state entries = agrees h.history in record {
+legal-answered {s} {n} {entries} {stop} h = let a : Agrees s h.execution.state entries = subst (λ (es : List Entry). Agrees s h.execution.state es) h.lines (agrees h.history) in record {
   answered = λ t. all_answered s t entries (a.pass t);
   returns = λ t. all_return s t entries (a.pass t);
   statements = λ t. all_named s t entries (a.pass t);
   woken = λ t. all_woken s t entries (a.pass t);
-  finished = λ t. end_answered s h.state entries stop t a h.stops;
+  finished = λ t. end_answered s h.execution.state entries stop t a h.stops;
 }

@@ -1,8 +1,6 @@
 -- In every history what is left in each thread stands at its lines.
 use Rattle.std.proofs.Common.{◌≡◌, ℕ, List, ◌∷◌, Some, subst}
 use Rattle.thr_values.specs.declared.number.Tid.{Tid}
-use Rattle.thr_values.specs.declared.event.Event.{Event}
-use Rattle.thr_values.specs.declared.history.Entry.{Entry}
 use Rattle.thr_values.specs.declared.scheduling.Mode.{Mode}
 use Rattle.thr_syntax.specs.declared.tree.Script.{Script}
 use Rattle.thr_syntax.specs.Lines.{lines_of}
@@ -14,7 +12,7 @@ use Rattle.thr_remainder.proofs.StepsKept.{IsKeptBySteps, RunKeeps, run_keeps}
 use Rattle.thr_parts.specs.Tables.{get}
 use Rattle.thr_parts.proofs.EachLaws.{Each}
 use Rattle.thr_model.specs.States.{State, remainder_of}
-use Rattle.thr_model.specs.Histories.{History}
+use Rattle.thr_model.specs.Histories.{Execution, History}
 use Rattle.thr_model.proofs.RemaindersKept.{IsKeptByTurns, remainder_has, history_has}
 use Rattle.thr_answers.specs.Standing.{AreItems, StandsIn}
 use Rattle.thr_answers.proofs.StepsStand.{fresh_stands, quiet_keeps, shared_keeps, outward_keeps, replied_keeps, once_keeps, destructor_keeps}
@@ -47,6 +45,5 @@ pub remainder_stands : (s : Script) (st : State) (t : Tid) → Each (StandsIn s)
 remainder_stands s st t h = remainder_has StandsIn stands_by_turns s st t h
 
 -- In every history what is left in each thread stands at its lines of the script.
-pub left-stands : {s : Script} {n : ℕ} {st : State} {events : List Event} {entries : List Entry} {turns : ℕ} → History s n st events entries turns
-    → (t : ℕ) (r : Remainder) → get st.remainders t ≡ Some r → StandsIn s r
+pub left-stands : {s : Script} {n : ℕ} {x : Execution} → History s n x → (t : ℕ) (r : Remainder) → get x.state.remainders t ≡ Some r → StandsIn s r
 left-stands h = history_has StandsIn stands_by_turns h

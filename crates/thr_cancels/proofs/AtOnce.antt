@@ -4,13 +4,10 @@ use Rattle.std.proofs.lemmas.Bool.{false≢true}
 use Rattle.std.specs.Prelude.{if◌then◌else◌}
 use Rattle.thr_values.specs.declared.number.Tid.{Tid}
 use Rattle.thr_values.specs.declared.scheduling.Mode.{Mode}
-use Rattle.thr_values.specs.declared.history.Entry.{Entry}
 use Rattle.thr_syntax.specs.declared.tree.Script.{Script}
 use Rattle.thr_parts.specs.Cancels as cancels
 use Rattle.thr_parts.specs.Cancels.{mode_in, mode_at, with_mode, set_mode}
-use Rattle.thr_model.specs.States.{State}
-use Rattle.thr_values.specs.declared.event.Event.{Event}
-use Rattle.thr_model.specs.Histories.{History}
+use Rattle.thr_model.specs.Histories.{Execution, History}
 use Rattle.thr_remainder.specs.Remainders.{Setting, Remainder, place_in, act_at}
 use Rattle.thr_parts.specs.Cancels.{deliver}
 use Rattle.thr_model.specs.States.{remainder_of, setting_of}
@@ -172,6 +169,6 @@ run_at_once n g mode r e h =
     let x : IsAtOnce (at_next mode (run_of n g mode) out.to (next g out.to)) = at_once mode (run_of n g mode) out.to (next g out.to) e (next_inward g out.to o.stopped) in
     record { lines = carried_append out.lines _ o.lines x.lines; halt = x.halt }
 
-pub turn_at_once : {s : Script} {n : ℕ} {st : State} {events : List Event} {entries : List Entry} {turns : ℕ} → History s n st events entries turns → (t : Tid)
-    → is_deliverable (cancels.mode_at st.threads t) false ≡ true → IsAtOnce (run_of most_steps (setting_of s st t) (cancels.mode_at st.threads t) (remainder_of st t))
-turn_at_once {s} {n} {st} h t e = run_at_once 63 (setting_of s st t) (cancels.mode_at st.threads t) (remainder_of st t) e (remainder_numbered s st t (numbers-given h))
+pub turn_at_once : {s : Script} {n : ℕ} {x : Execution} → History s n x → (t : Tid)
+    → is_deliverable (cancels.mode_at x.state.threads t) false ≡ true → IsAtOnce (run_of most_steps (setting_of s x.state t) (cancels.mode_at x.state.threads t) (remainder_of x.state t))
+turn_at_once {s} {n} {x} h t e = run_at_once 63 (setting_of s x.state t) (cancels.mode_at x.state.threads t) (remainder_of x.state t) e (remainder_numbered s x.state t (numbers-given h))

@@ -38,7 +38,7 @@ use Rattle.thr_model.specs.States.{State, Debt, Return, Delivery, Running, remai
 use Rattle.thr_model.specs.Calls.{Answered, answered}
 use Rattle.thr_model.specs.Turns.{Made, thread_line, gift_lines, after_reply, called, shared_made, end_made, begun_at, debt_made, halt_made, run_made, turn_by, turn_of}
 use Rattle.thr_model.specs.Events.{run_line, dispatch_made, clock_to, clock_of, made_by}
-use Rattle.thr_model.specs.Histories.{History, opened, then_event}
+use Rattle.thr_model.specs.Histories.{Execution, History, opened, then_event}
 use Rattle.thr_model.proofs.RowsKept.{history_canonical}
 use Rattle.thr_answers.specs.Standing.{StandsIn}
 use Rattle.thr_answers.specs.Statuses.{status, status_of, is_waiting}
@@ -178,55 +178,55 @@ owing_waits None x z d e w = absurd (cc)
 owing_waits (Some y) x None d e w = refl
 owing_waits (Some y) x (Some u) d e w = absurd (cc)
 
-module _ {s : Script} {n : ℕ} {st : State} {events : List Event} {entries : List Entry} {turns : ℕ} (h : History s n st events entries turns) where
-  own_turn : (t : Tid) (d : Option Debt) → get st.debts t.0 ≡ d → HasRun st t.0 → AllPass s t.0 (known t.0 entries) (turn_by s st t d).lines
+module _ {s : Script} {n : ℕ} {x : Execution} (h : History s n x) where
+  own_turn : (t : Tid) (d : Option Debt) → get x.state.debts t.0 ≡ d → HasRun x.state t.0 → AllPass s t.0 (known t.0 x.entries) (turn_by s x.state t d).lines
   own_turn t (Some d) e run =
-      let a : Agrees s st entries = agrees h in
-      let w : is_waiting (status_of st t.0) ≡ true = owing_waits (get st.debts t.0) (get st.rows.seats t.0) (get st.conds.waits t.0) d e (run_wait st t.0 run a.order) in
-      debt_pass s _ t (known t.0 entries) (setting_of s st t) (remainder_of st t) d refl (remainder_stands s st t (left-stands h)) (a.stands t.0 w)
+      let a : Agrees s x.state x.entries = agrees h in
+      let w : is_waiting (status_of x.state t.0) ≡ true = owing_waits (get x.state.debts t.0) (get x.state.rows.seats t.0) (get x.state.conds.waits t.0) d e (run_wait x.state t.0 run a.order) in
+      debt_pass s _ t (known t.0 x.entries) (setting_of s x.state t) (remainder_of x.state t) d refl (remainder_stands s x.state t (left-stands h)) (a.stands t.0 w)
   own_turn t None e run =
-      let g : Setting = setting_of s st t in
-      let mode : Mode = cancels.mode_at st.threads t in
-      run_pass s st t (known t.0 entries) mode g (run_of most_steps g mode (remainder_of st t)) (is_deliverable mode false) (own_must st t (known t.0 entries) (history_knows h t.0) (ap is_some run.at)) (turn_at_once h t) (run_fits most_steps g mode (remainder_of st t))
+      let g : Setting = setting_of s x.state t in
+      let mode : Mode = cancels.mode_at x.state.threads t in
+      run_pass s x.state t (known t.0 x.entries) mode g (run_of most_steps g mode (remainder_of x.state t)) (is_deliverable mode false) (own_must x.state t (known t.0 x.entries) (history_knows h t.0) (ap is_some run.at)) (turn_at_once h t) (run_fits most_steps g mode (remainder_of x.state t))
 
-  turn_pass : (t : Tid) (u : ℕ) (b : Bool) → eqb t.0 u ≡ b → HasRun st t.0 → AllPass s u (known u entries) (turn_of s st t).lines
+  turn_pass : (t : Tid) (u : ℕ) (b : Bool) → eqb t.0 u ≡ b → HasRun x.state t.0 → AllPass s u (known u x.entries) (turn_of s x.state t).lines
   unfolding turn_of
-  turn_pass t u true e run = subst (λ q. AllPass s q (known q entries) (turn_by s st t (debt_of st t)).lines) (eqb-true t.0 u e) (own_turn t (debt_of st t) refl run)
-  turn_pass t u false e run = silent_pass s u (known u entries) (turn_by s st t (debt_of st t)).lines (turn_silent s st t u e (debt_of st t))
+  turn_pass t u true e run = subst (λ q. AllPass s q (known q x.entries) (turn_by s x.state t (debt_of x.state t)).lines) (eqb-true t.0 u e) (own_turn t (debt_of x.state t) refl run)
+  turn_pass t u false e run = silent_pass s u (known u x.entries) (turn_by s x.state t (debt_of x.state t)).lines (turn_silent s x.state t u e (debt_of x.state t))
 
   -- ---- events
 
-  turn_at_pass : (u p : ℕ) (o : Option Tid) (made : Made) → running st.rows p ≡ o → option_map (turn_of s st) o ≡ Some made → AllPass s u (known u entries) made.lines
+  turn_at_pass : (u p : ℕ) (o : Option Tid) (made : Made) → running x.state.rows p ≡ o → option_map (turn_of s x.state) o ≡ Some made → AllPass s u (known u x.entries) made.lines
   turn_at_pass u p None made is e = absurd (cc)
   turn_at_pass u p (Some t) made is e =
-      subst (λ (m : Made). AllPass s u (known u entries) m.lines) (ap (λ o. unwrap_or o made) e) (turn_pass t u (eqb t.0 u) refl (has_run st p t (history_canonical h) is))
+      subst (λ (m : Made). AllPass s u (known u x.entries) m.lines) (ap (λ o. unwrap_or o made) e) (turn_pass t u (eqb t.0 u) refl (has_run x.state p t (history_canonical h) is))
 
-  dispatch_pass : (u p : ℕ) (o : Option Tid) (made : Made) → dispatch_made st p (dispatch st.rows p) o ≡ Some made → AllPass s u (known u entries) made.lines
+  dispatch_pass : (u p : ℕ) (o : Option Tid) (made : Made) → dispatch_made x.state p (dispatch x.state.rows p) o ≡ Some made → AllPass s u (known u x.entries) made.lines
   dispatch_pass u p None made e = absurd (cc)
-  dispatch_pass u p (Some t) made e = subst (λ (m : Made). AllPass s u (known u entries) m.lines) (ap (λ o. unwrap_or o made) e) (silent_pass s u (known u entries) (run_line p t ∷ []) (refl, tt))
+  dispatch_pass u p (Some t) made e = subst (λ (m : Made). AllPass s u (known u x.entries) m.lines) (ap (λ o. unwrap_or o made) e) (silent_pass s u (known u x.entries) (run_line p t ∷ []) (refl, tt))
 
-  dispatch_if_pass : (u p : ℕ) (b : Bool) (made : Made) → (if b then dispatch_made st p (dispatch st.rows p) (dispatch st.rows p).taken else None) ≡ Some made → AllPass s u (known u entries) made.lines
-  dispatch_if_pass u p true made e = dispatch_pass u p (dispatch st.rows p).taken made e
+  dispatch_if_pass : (u p : ℕ) (b : Bool) (made : Made) → (if b then dispatch_made x.state p (dispatch x.state.rows p) (dispatch x.state.rows p).taken else None) ≡ Some made → AllPass s u (known u x.entries) made.lines
+  dispatch_if_pass u p true made e = dispatch_pass u p (dispatch x.state.rows p).taken made e
   dispatch_if_pass u p false made e = absurd (cc)
 
-  clock_at_pass : (u : ℕ) (o : Option ℤ) (made : Made) → option_map (clock_to st) o ≡ Some made → AllPass s u (known u entries) made.lines
+  clock_at_pass : (u : ℕ) (o : Option ℤ) (made : Made) → option_map (clock_to x.state) o ≡ Some made → AllPass s u (known u x.entries) made.lines
   clock_at_pass u None made e = absurd (cc)
   clock_at_pass u (Some now) made e =
-      subst (λ (m : Made). AllPass s u (known u entries) m.lines) (ap (λ o. unwrap_or o made) e) (silent_pass s u (known u entries) (clock_to st now).lines (refl, gifts_silent u _))
+      subst (λ (m : Made). AllPass s u (known u x.entries) m.lines) (ap (λ o. unwrap_or o made) e) (silent_pass s u (known u x.entries) (clock_to x.state now).lines (refl, gifts_silent u _))
 
-  clock_pass : (u : ℕ) (b : Bool) (made : Made) → clock_of b st ≡ Some made → AllPass s u (known u entries) made.lines
+  clock_pass : (u : ℕ) (b : Bool) (made : Made) → clock_of b x.state ≡ Some made → AllPass s u (known u x.entries) made.lines
   clock_pass u true made e = absurd (cc)
-  clock_pass u false made e = clock_at_pass u (earliest st.conds) made e
+  clock_pass u false made e = clock_at_pass u (earliest x.state.conds) made e
 
-  made_pass : (u : ℕ) (e : Event) (made : Made) → made_by s n st e ≡ Some made → AllPass s u (known u entries) made.lines
+  made_pass : (u : ℕ) (e : Event) (made : Made) → made_by s n x.state e ≡ Some made → AllPass s u (known u x.entries) made.lines
   unfolding made_by
   made_pass u (event.Dispatch p) made m = dispatch_if_pass u p (nat_lt p n) made m
-  made_pass u (event.Turn p) made m = turn_at_pass u p (running st.rows p) made refl m
-  made_pass u event.Clock made m = clock_pass u (some_can_run st.rows) made m
+  made_pass u (event.Turn p) made m = turn_at_pass u p (running x.state.rows p) made refl m
+  made_pass u event.Clock made m = clock_pass u (some_can_run x.state.rows) made m
 
 -- ---- histories
 
 -- In every history each line passes.
-pub history_at_once : {s : Script} {n : ℕ} {st : State} {events : List Event} {entries : List Entry} {turns : ℕ} → History s n st events entries turns → (u : ℕ) → each_own_line (delivers_at_once s) u entries ≡ true
+pub history_at_once : {s : Script} {n : ℕ} {x : Execution} → History s n x → (u : ℕ) → each_own_line (delivers_at_once s) u x.entries ≡ true
 history_at_once opened u = refl
-history_at_once {s} (then_event {entries = entries} h none_stops e made m) u = pass_append s u known_at_first entries made.lines (history_at_once h u) (made_pass h u e made m)
+history_at_once {s} (then_event {x} h none_stops e made m) u = pass_append s u known_at_first x.entries made.lines (history_at_once h u) (made_pass h u e made m)

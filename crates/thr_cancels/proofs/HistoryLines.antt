@@ -51,7 +51,7 @@ use Rattle.thr_parts.proofs.EntryLaws.{get_cons, get_empty, get_filter, pass, pa
 use Rattle.thr_parts.proofs.RowLaws.{has_seat, canonical_standing}
 use Rattle.thr_parts.proofs.BestLaws.{found}
 use Rattle.thr_model.specs.Events.{run_line, dispatch_made, clock_to, clock_of, made_by}
-use Rattle.thr_model.specs.Histories.{History, opened, then_event}
+use Rattle.thr_model.specs.Histories.{Execution, History, opened, then_event}
 use Rattle.thr_model.proofs.RowsKept.{history_canonical}
 use Rattle.thr_cancels.proofs.Owed.{due_owes, woken_are, wake_all_free, has_wait, is_bound}
 use Rattle.thr_cancels.proofs.Seats.{wake_all_moves, put_woken, stays}
@@ -454,12 +454,12 @@ opening_knows s u =
     }
 
 -- In every history each line passes, and what is known of a thread agrees with the state.
-pub history_told : {s : Script} {n : ℕ} {st : State} {events : List Event} {entries : List Entry} {turns : ℕ} → History s n st events entries turns
-    → (u : ℕ) → Told u (λ l. KnowsOf u l st) known_at_first entries
+pub history_told : {s : Script} {n : ℕ} {x : Execution} → History s n x
+    → (u : ℕ) → Told u (λ l. KnowsOf u l x.state) known_at_first x.entries
 history_told {s} opened u = opening_knows s u
-history_told {s} {n} (then_event {st} {events} {entries} h none_stops e made m) u =
-    told_append u (λ l. KnowsOf u l made.state) known_at_first entries made.lines
-    (told_then u (λ l. KnowsOf u l st) (λ l. Told u (λ k. KnowsOf u k made.state) l made.lines) (λ l x. made_told s n st e made u l (history_canonical h) x m) known_at_first entries (history_told h u))
+history_told {s} {n} (then_event {x} h none_stops e made m) u =
+    told_append u (λ l. KnowsOf u l made.state) known_at_first x.entries made.lines
+    (told_then u (λ l. KnowsOf u l x.state) (λ l. Told u (λ k. KnowsOf u k made.state) l made.lines) (λ l k. made_told s n x.state e made u l (history_canonical h) k m) known_at_first x.entries (history_told h u))
 
 -- ---- the parts of the law
 
@@ -486,13 +486,13 @@ woken_first u es P h = each_passes u (λ k e. delivers_when_woken k (own_line u 
 
 -- ---- what is known after a history
 
-pub history_knows : {s : Script} {n : ℕ} {st : State} {events : List Event} {entries : List Entry} {turns : ℕ} → History s n st events entries turns → (u : ℕ) → KnowsOf u (known u entries) st
-history_knows {s} {n} {st} {events} {entries} h u = told_end u (λ l. KnowsOf u l st) known_at_first entries (history_told h u)
+pub history_knows : {s : Script} {n : ℕ} {x : Execution} → History s n x → (u : ℕ) → KnowsOf u (known u x.entries) x.state
+history_knows {s} {n} {x} h u = told_end u (λ l. KnowsOf u l x.state) known_at_first x.entries (history_told h u)
 
-pub record_told : {s : Script} {n : ℕ} {st : State} {events : List Event} {entries : List Entry} {turns : ℕ} → History s n st events entries turns → (u : ℕ) (th : Thread)
-    → get st.threads.records u ≡ Some th → telling.IsRecorded (known u entries) th
-record_told {s} {n} {st} {events} {entries} h u th e =
-    let m : Matches (known u entries) (core_of th) = matches_some (known u entries) _ (nat_lt u st.threads.next) (core_of th) (history_knows h u).recorded (ap core e) in
+pub record_told : {s : Script} {n : ℕ} {x : Execution} → History s n x → (u : ℕ) (th : Thread)
+    → get x.state.threads.records u ≡ Some th → telling.IsRecorded (known u x.entries) th
+record_told {s} {n} {x} h u th e =
+    let m : Matches (known u x.entries) (core_of th) = matches_some (known u x.entries) _ (nat_lt u x.state.threads.next) (core_of th) (history_knows h u).recorded (ap core e) in
     record { outstanding = m.outstanding; general = m.general; asynchronous = m.asynchronous; ended = m.ended }
 
 delivery_owed : (o : Option Debt) → owes_delivery o ≡ true → o ≡ Some Delivery
@@ -501,10 +501,10 @@ delivery_owed (Some Delivery) e = refl
 delivery_owed (Some (Return y)) e = absurd (false≢true e)
 delivery_owed (Some Running) e = absurd (false≢true e)
 
-pub woken_told : {s : Script} {n : ℕ} {st : State} {events : List Event} {entries : List Entry} {turns : ℕ} → History s n st events entries turns → (u : ℕ)
-    → (known u entries).woken ≡ true → get st.debts u ≡ Some Delivery
-woken_told {s} {n} {st} h u e = delivery_owed (get st.debts u) ((history_knows h u).woken e)
+pub woken_told : {s : Script} {n : ℕ} {x : Execution} → History s n x → (u : ℕ)
+    → (known u x.entries).woken ≡ true → get x.state.debts u ≡ Some Delivery
+woken_told {s} {n} {x} h u e = delivery_owed (get x.state.debts u) ((history_knows h u).woken e)
 
-pub waiting_told : {s : Script} {n : ℕ} {st : State} {events : List Event} {entries : List Entry} {turns : ℕ} → History s n st events entries turns → (u : ℕ)
-    → cancels.waits_at_point st.rows (thread u) ≡ true → is_some_line is_waiting_point (known u entries).last ≡ true
+pub waiting_told : {s : Script} {n : ℕ} {x : Execution} → History s n x → (u : ℕ)
+    → cancels.waits_at_point x.state.rows (thread u) ≡ true → is_some_line is_waiting_point (known u x.entries).last ≡ true
 waiting_told h u e = (history_knows h u).waiting e

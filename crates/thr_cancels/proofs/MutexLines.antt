@@ -47,8 +47,9 @@ use Rattle.thr_model.specs.States.{State, Debt, Return, Delivery, Running, remai
 use Rattle.thr_model.specs.Calls.{Answered, answered}
 use Rattle.thr_model.specs.Turns.{Made, thread_line, gift_lines, runs_routine, runs_if, after_reply, called, shared_made, end_made, begun_by, begun_at, debt_made, halt_made, run_made, turn_by, turn_of}
 use Rattle.thr_model.specs.Events.{run_line, dispatch_made, clock_to, clock_of, made_by}
-use Rattle.thr_model.specs.Histories.{History, opened, then_event, Legal}
+use Rattle.thr_model.specs.Histories.{Execution, History, opened, then_event, Legal}
 use Rattle.thr_model.proofs.RowsKept.{history_canonical}
+use Rattle.thr_model.proofs.Legality.{of-legal}
 use Rattle.thr_answers.specs.Statuses.{is_waiting}
 use Rattle.thr_answers.proofs.StatusTurns.{HasRun, has_run, run_wait, calls_calmly}
 use Rattle.thr_answers.proofs.AnswerTurns.{Agrees, agrees}
@@ -279,74 +280,78 @@ debt_pass st t lock b g r Running f =
 abbrev pub told : ℕ → Lock → List Entry → Both
 told u lock entries = record { thread = known u entries; lock = fold (held_after lock) (at_first lock) entries }
 
-module _ {s : Script} {n : ℕ} {st : State} {events : List Event} {entries : List Entry} {turns : ℕ} (h : History s n st events entries turns) (lock : Lock) where
+module _ {s : Script} {n : ℕ} {x : Execution} (h : History s n x) (lock : Lock) where
   abbrev MadePasses : ℕ → Made → Type 0
-  MadePasses u made = Pass u lock (told u lock entries) made.lines
+  MadePasses u made = Pass u lock (told u lock x.entries) made.lines
 
-  back_owner : (t : ℕ) → HasRun st t → get st.conds.waits t ≡ None → HasBack t lock st → is_owner t (owner entries lock) ≡ true
+  back_owner : (t : ℕ) → HasRun x.state t → get x.state.conds.waits t ≡ None → HasBack t lock x.state → is_owner t (owner x.entries lock) ≡ true
   back_owner t run w (has_wait e) = absurd (false≢true (sym (ap is_some w) ∙ e))
   back_owner t run w (stands e) = absurd (false≢true (sym (ap is_some (ap row_at run.at ∙ run.runs)) ∙ e))
   back_owner t run w (owns e) = ap (is_owner t) (owner-told h lock) ∙ e
 
-  module _ (back : (u : ℕ) → is_some_line (is_wait_with lock) (known u entries).last ≡ true → HasBack u lock st) where
-    own_turn : (t : Tid) (d : Option Debt) → get st.debts t.0 ≡ d → HasRun st t.0 → MadePasses t.0 (turn_by s st t d)
-    own_turn t (Some d) e run = debt_pass _ t lock (told t.0 lock entries) (setting_of s st t) (remainder_of st t) d (λ i. back_owner t.0 run (run_wait st t.0 run (agrees h).order) (back t.0 i))
+  module _ (back : (u : ℕ) → is_some_line (is_wait_with lock) (known u x.entries).last ≡ true → HasBack u lock x.state) where
+    own_turn : (t : Tid) (d : Option Debt) → get x.state.debts t.0 ≡ d → HasRun x.state t.0 → MadePasses t.0 (turn_by s x.state t d)
+    own_turn t (Some d) e run = debt_pass _ t lock (told t.0 lock x.entries) (setting_of s x.state t) (remainder_of x.state t) d (λ i. back_owner t.0 run (run_wait x.state t.0 run (agrees h).order) (back t.0 i))
     own_turn t None e run =
-        let a : Agrees s st entries = agrees h in
-        let g : Setting = setting_of s st t in
-        let mode : Mode = cancels.mode_at st.threads t in
-        run_pass s st t lock (told t.0 lock entries) g (run_of most_steps g mode (remainder_of st t)) (a.waiting t.0 ∙ ap is_waiting (calls_calmly st t.0 run a.order (history_canonical h) e).caller.calm) (run_fits most_steps g mode (remainder_of st t))
+        let a : Agrees s x.state x.entries = agrees h in
+        let g : Setting = setting_of s x.state t in
+        let mode : Mode = cancels.mode_at x.state.threads t in
+        run_pass s x.state t lock (told t.0 lock x.entries) g (run_of most_steps g mode (remainder_of x.state t)) (a.waiting t.0 ∙ ap is_waiting (calls_calmly x.state t.0 run a.order (history_canonical h) e).caller.calm) (run_fits most_steps g mode (remainder_of x.state t))
 
-    turn_pass : (t : Tid) (u : ℕ) (b : Bool) → eqb t.0 u ≡ b → HasRun st t.0 → MadePasses u (turn_of s st t)
+    turn_pass : (t : Tid) (u : ℕ) (b : Bool) → eqb t.0 u ≡ b → HasRun x.state t.0 → MadePasses u (turn_of s x.state t)
     unfolding turn_of
-    turn_pass t u true e run = subst (λ q. MadePasses q (turn_by s st t (debt_of st t))) (eqb-true t.0 u e) (own_turn t (debt_of st t) refl run)
-    turn_pass t u false e run = silent_pass u lock (told u lock entries) (turn_by s st t (debt_of st t)).lines (turn_silent s st t u e (debt_of st t))
+    turn_pass t u true e run = subst (λ q. MadePasses q (turn_by s x.state t (debt_of x.state t))) (eqb-true t.0 u e) (own_turn t (debt_of x.state t) refl run)
+    turn_pass t u false e run = silent_pass u lock (told u lock x.entries) (turn_by s x.state t (debt_of x.state t)).lines (turn_silent s x.state t u e (debt_of x.state t))
 
-    turn_at_pass : (u p : ℕ) (o : Option Tid) (made : Made) → running st.rows p ≡ o → option_map (turn_of s st) o ≡ Some made → MadePasses u made
+    turn_at_pass : (u p : ℕ) (o : Option Tid) (made : Made) → running x.state.rows p ≡ o → option_map (turn_of s x.state) o ≡ Some made → MadePasses u made
     turn_at_pass u p None made is e = absurd (cc)
-    turn_at_pass u p (Some t) made is e = subst (MadePasses u) (ap (λ o. unwrap_or o made) e) (turn_pass t u (eqb t.0 u) refl (has_run st p t (history_canonical h) is))
+    turn_at_pass u p (Some t) made is e = subst (MadePasses u) (ap (λ o. unwrap_or o made) e) (turn_pass t u (eqb t.0 u) refl (has_run x.state p t (history_canonical h) is))
 
-    dispatch_pass : (u p : ℕ) (o : Option Tid) (made : Made) → dispatch_made st p (dispatch st.rows p) o ≡ Some made → MadePasses u made
+    dispatch_pass : (u p : ℕ) (o : Option Tid) (made : Made) → dispatch_made x.state p (dispatch x.state.rows p) o ≡ Some made → MadePasses u made
     dispatch_pass u p None made e = absurd (cc)
-    dispatch_pass u p (Some t) made e = subst (MadePasses u) (ap (λ o. unwrap_or o made) e) (silent_pass u lock (told u lock entries) (run_line p t ∷ []) (refl, tt))
+    dispatch_pass u p (Some t) made e = subst (MadePasses u) (ap (λ o. unwrap_or o made) e) (silent_pass u lock (told u lock x.entries) (run_line p t ∷ []) (refl, tt))
 
-    dispatch_if_pass : (u p : ℕ) (b : Bool) (made : Made) → (if b then dispatch_made st p (dispatch st.rows p) (dispatch st.rows p).taken else None) ≡ Some made → MadePasses u made
-    dispatch_if_pass u p true made e = dispatch_pass u p (dispatch st.rows p).taken made e
+    dispatch_if_pass : (u p : ℕ) (b : Bool) (made : Made) → (if b then dispatch_made x.state p (dispatch x.state.rows p) (dispatch x.state.rows p).taken else None) ≡ Some made → MadePasses u made
+    dispatch_if_pass u p true made e = dispatch_pass u p (dispatch x.state.rows p).taken made e
     dispatch_if_pass u p false made e = absurd (cc)
 
-    clock_at_pass : (u : ℕ) (o : Option ℤ) (made : Made) → option_map (clock_to st) o ≡ Some made → MadePasses u made
+    clock_at_pass : (u : ℕ) (o : Option ℤ) (made : Made) → option_map (clock_to x.state) o ≡ Some made → MadePasses u made
     clock_at_pass u None made e = absurd (cc)
-    clock_at_pass u (Some now) made e = subst (MadePasses u) (ap (λ o. unwrap_or o made) e) (silent_pass u lock (told u lock entries) (clock_to st now).lines (refl, gifts_silent u _))
+    clock_at_pass u (Some now) made e = subst (MadePasses u) (ap (λ o. unwrap_or o made) e) (silent_pass u lock (told u lock x.entries) (clock_to x.state now).lines (refl, gifts_silent u _))
 
-    clock_pass : (u : ℕ) (b : Bool) (made : Made) → clock_of b st ≡ Some made → MadePasses u made
+    clock_pass : (u : ℕ) (b : Bool) (made : Made) → clock_of b x.state ≡ Some made → MadePasses u made
     clock_pass u true made e = absurd (cc)
-    clock_pass u false made e = clock_at_pass u (earliest st.conds) made e
+    clock_pass u false made e = clock_at_pass u (earliest x.state.conds) made e
 
-    made_pass : (u : ℕ) (e : Event) (made : Made) → made_by s n st e ≡ Some made → MadePasses u made
+    made_pass : (u : ℕ) (e : Event) (made : Made) → made_by s n x.state e ≡ Some made → MadePasses u made
     unfolding made_by
     made_pass u (event.Dispatch p) made m = dispatch_if_pass u p (nat_lt p n) made m
-    made_pass u (event.Turn p) made m = turn_at_pass u p (running st.rows p) made refl m
-    made_pass u event.Clock made m = clock_pass u (some_can_run st.rows) made m
+    made_pass u (event.Turn p) made m = turn_at_pass u p (running x.state.rows p) made refl m
+    made_pass u event.Clock made m = clock_pass u (some_can_run x.state.rows) made m
 
 -- In every history of the script those whose last line is a wait with the lock have a wait, stand in a row, or own the lock.
 abbrev pub WaitersRegain : Script → ℕ → Lock → Type 0
-WaitersRegain s n lock = (st : State) (events : List Event) (entries : List Entry) (turns : ℕ) → History s n st events entries turns → (u : ℕ) → is_some_line (is_wait_with lock) (known u entries).last ≡ true → HasBack u lock st
+WaitersRegain s n lock = (x : Execution) → History s n x → (u : ℕ) → is_some_line (is_wait_with lock) (known u x.entries).last ≡ true → HasBack u lock x.state
 
 -- So the thread has its mutex again where a wait with it ends.
-pub history_mutexes : {s : Script} {n : ℕ} {st : State} {events : List Event} {entries : List Entry} {turns : ℕ} (lock : Lock) → WaitersRegain s n lock → History s n st events entries turns → (u : ℕ) → waits_end_with_the_mutex u lock entries ≡ true
+pub history_mutexes : {s : Script} {n : ℕ} {x : Execution} (lock : Lock) → WaitersRegain s n lock → History s n x → (u : ℕ) → waits_end_with_the_mutex u lock x.entries ≡ true
 history_mutexes lock back opened u = refl
-history_mutexes {s} lock back (then_event {st} {events} {entries} {turns} h none_stops e made m) u =
+history_mutexes {s} lock back (then_event {x} h none_stops e made m) u =
     let first : Both = record { thread = known_at_first; lock = at_first lock } in
-    pass_append u lock first entries made.lines (history_mutexes lock back h u)
-    (subst (λ (b : Both). Pass u lock b made.lines) (sym (both_known u lock first entries)) (made_pass h lock (λ q i. back st events entries turns h q i) u e made m))
+    pass_append u lock first x.entries made.lines (history_mutexes lock back h u)
+    (subst (λ (b : Both). Pass u lock b made.lines) (sym (both_known u lock first x.entries)) (made_pass h lock (λ q i. back x h q i) u e made m))
 
--- With the other parts, cancels are delivered when they must and may be in every legal history, if waiters regain their mutexes.
-pub cancel_law : {s : Script} {n : ℕ} {entries : List Entry} {stop : Stop} → ((lock : Lock) → WaitersRegain s n lock) → Legal s n entries stop → CancelLaw s entries
-cancel_law {s} {n} {entries} back legal = record {
-  outstanding = λ u. delivers u entries _ (history_told legal.history u);
-  effects = λ u. has_effects u entries _ (history_told legal.history u);
-  points = λ u. no_points u entries _ (history_told legal.history u);
-  at_once = λ u. history_at_once legal.history u;
-  woken = λ u. woken_first u entries _ (history_told legal.history u);
-  mutexes = λ u lock. history_mutexes lock (back lock) legal.history u;
+-- With the other parts, cancels are delivered when they must and may be in every history, if waiters regain their mutexes.
+history_cancels : {s : Script} {n : ℕ} {x : Execution} → ((lock : Lock) → WaitersRegain s n lock) → History s n x → CancelLaw s x.entries
+history_cancels {s} {n} {x} back h = record {
+  outstanding = λ u. delivers u x.entries _ (history_told h u);
+  effects = λ u. has_effects u x.entries _ (history_told h u);
+  points = λ u. no_points u x.entries _ (history_told h u);
+  at_once = λ u. history_at_once h u;
+  woken = λ u. woken_first u x.entries _ (history_told h u);
+  mutexes = λ u lock. history_mutexes lock (back lock) h u;
 }
+
+-- So they are in every legal history.
+pub cancel_law : {s : Script} {n : ℕ} {entries : List Entry} {stop : Stop} → ((lock : Lock) → WaitersRegain s n lock) → Legal s n entries stop → CancelLaw s entries
+cancel_law {s} back legal = of-legal (CancelLaw s) (λ x h. history_cancels back h) legal

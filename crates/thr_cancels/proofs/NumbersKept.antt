@@ -1,8 +1,6 @@
 -- In every history unwindings have numbers that were given.
 use Rattle.std.proofs.Common.{◌≡◌, ℕ, List, ◌∷◌, Some, subst}
 use Rattle.thr_values.specs.declared.number.Tid.{Tid}
-use Rattle.thr_values.specs.declared.event.Event.{Event}
-use Rattle.thr_values.specs.declared.history.Entry.{Entry}
 use Rattle.thr_syntax.specs.declared.tree.Script.{Script}
 use Rattle.thr_remainder.specs.declared.unwinding.Unwinding.{Unwinding}
 use Rattle.thr_remainder.specs.Remainders.{Item, Setting, Remainder}
@@ -11,7 +9,7 @@ use Rattle.thr_remainder.proofs.StepsKept.{IsKeptBySteps}
 use Rattle.thr_parts.specs.Tables.{get}
 use Rattle.thr_parts.proofs.EachLaws.{Each}
 use Rattle.thr_model.specs.States.{State, remainder_of}
-use Rattle.thr_model.specs.Histories.{History}
+use Rattle.thr_model.specs.Histories.{Execution, History}
 use Rattle.thr_model.proofs.RemaindersKept.{IsKeptByTurns, remainder_has, history_has}
 use Rattle.thr_cancels.proofs.Numbers.{AreItems, IsUnwinding, HasNumbers, IsOutward, quiet_keeps, shared_keeps, outward_out, once_keeps, destructor_keeps, raised_keeps, delivered_keeps, replied_keeps, fresh_has}
 
@@ -42,6 +40,5 @@ pub remainder_numbered : (s : Script) (st : State) (t : Tid) → Each HasNumbers
 remainder_numbered s st t h = remainder_has (λ s. HasNumbers) numbers_by_turns s st t h
 
 -- In every history the unwindings of each thread have such numbers.
-pub numbers-given : {s : Script} {n : ℕ} {st : State} {events : List Event} {entries : List Entry} {turns : ℕ} → History s n st events entries turns
-    → (t : ℕ) (r : Remainder) → get st.remainders t ≡ Some r → HasNumbers r
+pub numbers-given : {s : Script} {n : ℕ} {x : Execution} → History s n x → (t : ℕ) (r : Remainder) → get x.state.remainders t ≡ Some r → HasNumbers r
 numbers-given h = history_has (λ s. HasNumbers) numbers_by_turns h

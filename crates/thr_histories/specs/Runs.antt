@@ -10,8 +10,8 @@ use Rattle.thr_values.specs.declared.history.What.TheVariants as what
 use Rattle.thr_values.specs.declared.history.Entry.{Entry}
 use Rattle.thr_syntax.specs.declared.tree.Script.{Script}
 use Rattle.thr_syntax.specs.Canon.{canon}
-use Rattle.thr_model.specs.Histories.{Legal}
-use Rattle.thr_model.specs.Play.{Past, past_of, past_by, alone}
+use Rattle.thr_model.specs.Histories.{Execution, at_opening, Legal}
+use Rattle.thr_model.specs.Play.{execution_by, alone}
 use Rattle.thr_laws.specs.Routed.{Routed}
 use Rattle.thr_laws.specs.Owners.{OneOwner}
 use Rattle.thr_laws.specs.CancelLaw.{CancelLaw}
@@ -26,29 +26,29 @@ pub record MeetsLaws (s : Script) (entries : List Entry) (stop : Stop) : Type 0 
   pub cancels : CancelLaw s entries
   pub calls : CallsOnce s entries stop
 
--- Where the history of so many processors has come to this, it is this history, it is legal and stops so, and it meets the laws.
+-- Where this is the execution on so many processors, its lines are this history, they are legal and stop so, and they meet the laws.
 -- Script and history are written in one line; the script is canonical.
-pub record Runs (source : String) (workers : ℕ) (past : Past) (history : String) (stop : Stop) : Type 0 where
+pub record Runs (source : String) (workers : ℕ) (x : Execution) (history : String) (stop : Stop) : Type 0 where
   pub script : canon (script_of source) ≡ text_in_lines source
-  pub legal : Legal (script_of source) workers past.entries stop
-  pub text : history_text (script_of source) past.entries stop ≡ text_in_lines history
-  pub laws : MeetsLaws (script_of source) past.entries stop
+  pub legal : Legal (script_of source) workers x.entries stop
+  pub text : history_text (script_of source) x.entries stop ≡ text_in_lines history
+  pub laws : MeetsLaws (script_of source) x.entries stop
 
 -- How many events a worked history has at most.
 abbrev pub most_events : ℕ
 most_events = 400
 
 -- What one processor makes of a script.
-abbrev pub past_alone : Script → Past
-past_alone s = alone most_events s (past_of s)
+abbrev pub execution_alone : Script → Execution
+execution_alone s = alone most_events s (at_opening s)
 
 -- On one processor the script has this history, and stops so.
 abbrev pub RunsAlone : String → String → Stop → Type 0
-RunsAlone source history stop = Runs source 1 (past_alone (script_of source)) history stop
+RunsAlone source history stop = Runs source 1 (execution_alone (script_of source)) history stop
 
 -- By these events of so many processors the script has this history, and stops so.
 abbrev pub RunsBy : String → ℕ → List Event → String → Stop → Type 0
-RunsBy source workers events history stop = Runs source workers (past_by (script_of source) workers events) history stop
+RunsBy source workers events history stop = Runs source workers (execution_by (script_of source) workers events) history stop
 
 -- ---- what threads say
 
@@ -65,6 +65,6 @@ said (e ∷ entries) = said_by e.who e.what (said entries)
 -- the laws. This is for histories that are too long to be written out.
 pub record SaysBy (source : String) (workers : ℕ) (events : List Event) (says : List (ℕ × ℤ)) (stop : Stop) : Type 0 where
   pub script : canon (script_of source) ≡ text_in_lines source
-  pub legal : Legal (script_of source) workers (past_by (script_of source) workers events).entries stop
-  pub said_then : said (past_by (script_of source) workers events).entries ≡ says
-  pub laws : MeetsLaws (script_of source) (past_by (script_of source) workers events).entries stop
+  pub legal : Legal (script_of source) workers (execution_by (script_of source) workers events).entries stop
+  pub said_then : said (execution_by (script_of source) workers events).entries ≡ says
+  pub laws : MeetsLaws (script_of source) (execution_by (script_of source) workers events).entries stop

@@ -1,10 +1,8 @@
 -- Arrivals in every history: each was given, and to one thread alone. So the best thread of a row is before every other of it.
-use Rattle.std.proofs.Common.{◌≡◌, ℕ, ◌+◌, ◌<◌, Bool, true, false, nat_lt, eqb, cond, ◌&&◌, ◌||◌, ◌==◌, List, Option, Some, None, refl, sym, ◌∙◌, ap, subst, arith}
+use Rattle.std.proofs.Common.{◌≡◌, ℕ, ◌+◌, ◌<◌, Bool, true, false, nat_lt, eqb, cond, ◌&&◌, ◌||◌, ◌==◌, Option, Some, None, refl, sym, ◌∙◌, ap, subst, arith}
 use Rattle.std.proofs.lemmas.Bool.Decides.{nat_tests}
 use Rattle.std.specs.Option.{unwrap_or}
 use Rattle.thr_values.specs.declared.number.Tid.{Tid}
-use Rattle.thr_values.specs.declared.event.Event.{Event}
-use Rattle.thr_values.specs.declared.history.Entry.{Entry}
 use Rattle.thr_syntax.specs.declared.tree.Script.{Script}
 use Rattle.thr_parts.specs.declared.row.RowId.{RowId}
 use Rattle.thr_parts.specs.declared.row.Place.{Place}
@@ -16,8 +14,7 @@ use Rattle.thr_parts.specs.Moves.{as_ranked}
 use Rattle.thr_parts.specs.Dispatch.{whole_slice, a_turn_later}
 use Rattle.thr_parts.proofs.TableLaws.{get_none, get_put, get_cut}
 use Rattle.thr_parts.proofs.RowLaws.{HasSeat, seat_of_row, best_stands, none_comes_before}
-use Rattle.thr_model.specs.States.{State}
-use Rattle.thr_model.specs.Histories.{History}
+use Rattle.thr_model.specs.Histories.{Execution, History}
 use Rattle.thr_model.proofs.ArrivalsKept.{IsKeptWithArrivals}
 use Rattle.thr_model.proofs.RowsKept.{TakesBelow, history_keeps}
 
@@ -125,7 +122,7 @@ takes : (n : ℕ) → TakesBelow AreArrivals arrivals_are_kept n
 takes n p is next m t rank h = no_new next m t (record { rank = rank; place = Runs p whole_slice }) (λ a e. never a e) h
 
 -- In every history each arrival is below the next one, and no two threads have the same.
-pub arrivals : {s : Script} {n : ℕ} {st : State} {events : List Event} {entries : List Entry} {turns : ℕ} → History s n st events entries turns → AreArrivals st.rows.next_arrival st.rows.seats
+pub arrivals : {s : Script} {n : ℕ} {x : Execution} → History s n x → AreArrivals x.state.rows.next_arrival x.state.rows.seats
 arrivals {s} {n} h = history_keeps AreArrivals arrivals_are_kept no_arrivals (takes n) h
 
 -- ---- the best thread of a row

@@ -10,3 +10,4 @@ pub mod Owners
 pub mod FirstLines
 pub mod OneEvent
 pub mod Fixed
+pub mod Legality

@@ -1,12 +1,11 @@
 -- One processor leaves no choice: at most one event is legal in a state.
 use Rattle.std.proofs.Common.{◌≡◌, ℕ, Bool, true, false, Option, Some, None, refl, arith, ap}
 use Rattle.std.proofs.lemmas.Bool.Decides.{nat_tests}
-use Rattle.std.specs.Prelude.{List, if◌then◌else◌, nat_lt}
+use Rattle.std.specs.Prelude.{if◌then◌else◌, nat_lt}
 use Rattle.std.specs.Option.{option_map}
 use Rattle.thr_values.specs.declared.number.Tid.{Tid}
 use Rattle.thr_values.specs.declared.event.Event.{Event}
 use Rattle.thr_values.specs.declared.event.Event.TheVariants as event
-use Rattle.thr_values.specs.declared.history.Entry.{Entry}
 use Rattle.thr_syntax.specs.declared.tree.Script.{Script}
 use Rattle.thr_parts.specs.Rows.{Rows}
 use Rattle.thr_parts.specs.Dispatch.{running, some_can_run, dispatch}
@@ -15,7 +14,7 @@ use Rattle.thr_parts.proofs.KeptLaws.{running_below}
 use Rattle.thr_model.specs.States.{State}
 use Rattle.thr_model.specs.Turns.{Made, turn_of}
 use Rattle.thr_model.specs.Events.{dispatch_made, clock_of, made_by}
-use Rattle.thr_model.specs.Histories.{History}
+use Rattle.thr_model.specs.Histories.{Execution, History}
 use Rattle.thr_model.proofs.RowsKept.{history_canonical, history_below}
 
 -- What a legal event tells of the rows.
@@ -72,7 +71,6 @@ one_event rs event.Clock (event.Turn q) below a b = absurd (not_both (some_can_r
 one_event rs event.Clock event.Clock below a b = refl
 
 -- A history of one processor has one event that is legal after it, at most.
-pub one-event : {s : Script} {st : State} {events : List Event} {entries : List Entry} {turns : ℕ} → History s 1 st events entries turns
-    → (e f : Event) (a b : Made) → made_by s 1 st e ≡ Some a → made_by s 1 st f ≡ Some b → e ≡ f
-one-event {s} {st} h e f a b m o =
-    one_event st.rows e f (λ p t r. running_below 1 st.rows p t (history_canonical h) (history_below h) r) (made_asks s 1 st e a m) (made_asks s 1 st f b o)
+pub one-event : {s : Script} {x : Execution} → History s 1 x → (e f : Event) (a b : Made) → made_by s 1 x.state e ≡ Some a → made_by s 1 x.state f ≡ Some b → e ≡ f
+one-event {s} {x} h e f a b m o =
+    one_event x.state.rows e f (λ p t r. running_below 1 x.state.rows p t (history_canonical h) (history_below h) r) (made_asks s 1 x.state e a m) (made_asks s 1 x.state f b o)

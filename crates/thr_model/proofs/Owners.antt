@@ -9,7 +9,6 @@ use Rattle.thr_values.specs.declared.event.Event.TheVariants as event
 use Rattle.thr_values.specs.declared.reply.Effect.TheVariants as effect
 use Rattle.thr_values.specs.declared.reply.Reply.{Reply}
 use Rattle.thr_values.specs.declared.reply.Reply.TheVariants as reply
-use Rattle.thr_values.specs.declared.history.Entry.{Entry}
 use Rattle.thr_syntax.specs.declared.dce.DceCall.{DceCall}
 use Rattle.thr_syntax.specs.declared.dce.DceCall.TheVariants as dce
 use Rattle.thr_syntax.specs.declared.tree.Script.{Script}
@@ -49,7 +48,7 @@ use Rattle.thr_model.specs.States.{State, Debt, Return, Delivery, Running, rank_
 use Rattle.thr_model.specs.Calls.{answered, ready_if, rank_if, cancelled, given_state, signals_one, woken_state, first, second}
 use Rattle.thr_model.specs.Turns.{Made, called, written_to, shared_made, handed_on, end_made, debt_made, halt_made, turn_by, kept, is_fifo_in, turn_of}
 use Rattle.thr_model.specs.Events.{dispatch_made, clock_to, clock_of, made_by}
-use Rattle.thr_model.specs.Histories.{History, opened, then_event}
+use Rattle.thr_model.specs.Histories.{Execution, History, opened, then_event}
 
 abbrev Owned : State → Type 0
 Owned st = AreOwned st.locks st.conds st.rows
@@ -228,11 +227,10 @@ made_by_owned s n st event.Clock made h e = clock_owned st (some_can_run st.rows
 opening_owned : (s : Script) → Owned (opening s)
 opening_owned s = ready_owned no_locks no_conds no_rows (thread 1) _ (record { sorted = canonical_none Seat; owned = each_none (IsOwned no_locks); made = each_none (IsMade no_locks) })
 
-history_owned : {s : Script} {n : ℕ} {st : State} {events : List Event} {entries : List Entry} {turns : ℕ} → History s n st events entries turns → Owned st
+history_owned : {s : Script} {n : ℕ} {x : Execution} → History s n x → Owned x.state
 history_owned {s} opened = opening_owned s
-history_owned {s} {n} (then_event {st} h open_ e made m) = made_by_owned s n st e made (history_owned h) m
+history_owned {s} {n} (then_event {x} h open_ e made m) = made_by_owned s n x.state e made (history_owned h) m
 
 -- In every history nobody waits for a mutex, or for the global lock, that nobody owns.
-pub nobody-waits : {s : Script} {n : ℕ} {st : State} {events : List Event} {entries : List Entry} {turns : ℕ} → History s n st events entries turns
-    → (m : Option NameId) → owner st.locks m ≡ None → best st.rows (waiters_row m) ≡ None
-nobody-waits {st = st} h m e = nobody_waits st.locks st.conds st.rows m (history_owned h) e
+pub nobody-waits : {s : Script} {n : ℕ} {x : Execution} → History s n x → (m : Option NameId) → owner x.state.locks m ≡ None → best x.state.rows (waiters_row m) ≡ None
+nobody-waits {x = x} h m e = nobody_waits x.state.locks x.state.conds x.state.rows m (history_owned h) e

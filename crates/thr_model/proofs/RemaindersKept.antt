@@ -9,7 +9,6 @@ use Rattle.thr_values.specs.declared.event.Event.TheVariants as event
 use Rattle.thr_values.specs.declared.reply.Effect.TheVariants as effect
 use Rattle.thr_values.specs.declared.reply.Reply.{Reply}
 use Rattle.thr_values.specs.declared.reply.Reply.TheVariants as reply
-use Rattle.thr_values.specs.declared.history.Entry.{Entry}
 use Rattle.thr_syntax.specs.declared.dce.DceCall.{DceCall}
 use Rattle.thr_syntax.specs.declared.dce.DceCall.TheVariants as dce
 use Rattle.thr_syntax.specs.declared.tree.Script.{Script}
@@ -41,7 +40,7 @@ use Rattle.thr_model.specs.States.{State, Debt, Return, Delivery, Running, nothi
 use Rattle.thr_model.specs.Calls.{Answered, answered, cancelled, given_state, signals_one, woken_state, first}
 use Rattle.thr_model.specs.Turns.{Made, runs_routine, runs_if, after_reply, called, written_to, shared_made, handed_on, end_made, begun_by, begun_at, debt_made, halt_made, turn_by, turn_of}
 use Rattle.thr_model.specs.Events.{dispatch_made, clock_to, clock_of, made_by}
-use Rattle.thr_model.specs.Histories.{History, opened, then_event}
+use Rattle.thr_model.specs.Histories.{Execution, History, opened, then_event}
 
 -- A fact that each step keeps and that is there where nothing is left.
 pub record IsKeptByTurns (P : Script → Remainder → Type 0) : Type 0 where
@@ -208,7 +207,6 @@ module _ (P : Script → Remainder → Type 0) (k : IsKeptByTurns P) where
   made_have s n st event.Clock made h e = clock_have s st (some_can_run st.rows) made h e
 
   -- So it is there in every history.
-  pub history_has : {s : Script} {n : ℕ} {st : State} {events : List Event} {entries : List Entry} {turns : ℕ} → History s n st events entries turns
-      → (t : ℕ) (r : Remainder) → get st.remainders t ≡ Some r → P s r
+  pub history_has : {s : Script} {n : ℕ} {x : Execution} → History s n x → (t : ℕ) (r : Remainder) → get x.state.remainders t ≡ Some r → P s r
   history_has {s} opened = each_put (P s) none 1 _ (k.kept.begins s _ _) (each_none (P s))
-  history_has {s} {n} (then_event {st} h open_ e made m) = made_have s n st e made (history_has h) m
+  history_has {s} {n} (then_event {x} h open_ e made m) = made_have s n x.state e made (history_has h) m

@@ -10,7 +10,6 @@ use Rattle.thr_values.specs.declared.event.Event.TheVariants as event
 use Rattle.thr_values.specs.declared.reply.Effect.TheVariants as effect
 use Rattle.thr_values.specs.declared.reply.Reply.{Reply}
 use Rattle.thr_values.specs.declared.reply.Reply.TheVariants as reply
-use Rattle.thr_values.specs.declared.history.Entry.{Entry}
 use Rattle.thr_syntax.specs.declared.dce.DceCall.{DceCall}
 use Rattle.thr_syntax.specs.declared.dce.DceCall.TheVariants as dce
 use Rattle.thr_syntax.specs.declared.tree.Script.{Script}
@@ -45,7 +44,7 @@ use Rattle.thr_model.specs.States.{State, Debt, Return, Delivery, Running, rank_
 use Rattle.thr_model.specs.Calls.{answered, ready_if, rank_if, cancelled, given_state, signals_one, woken_state, first, second}
 use Rattle.thr_model.specs.Turns.{Made, called, written_to, shared_made, handed_on, end_made, debt_made, halt_made, turn_by, kept, is_fifo_in, turn_of}
 use Rattle.thr_model.specs.Events.{dispatch_made, clock_to, clock_of, made_by}
-use Rattle.thr_model.specs.Histories.{History, opened, then_event}
+use Rattle.thr_model.specs.Histories.{Execution, History, opened, then_event}
 use Rattle.thr_model.proofs.ArrivalsKept.{Holds, Takes, IsKeptWithArrivals, with_arrivals, kept_put_in_row, kept_block_in, kept_block_if, kept_leave, kept_set_rank, kept_keeps, kept_free_row, kept_lock, kept_unlock, kept_regain, kept_wait, kept_timedwait, kept_delay, kept_signal, kept_wake_all, kept_enter, kept_undone, kept_read, kept_write, kept_close_out, kept_cancel_wait, kept_dispatch}
 
 module _ (R : ℕ → Table Seat → Type 0) (k : IsKeptWithArrivals R) where
@@ -227,10 +226,9 @@ module _ (R : ℕ → Table Seat → Type 0) (k : IsKeptWithArrivals R) where
   made_keeps s n runs st event.Clock made h e = clock_has st (some_can_run st.rows) made h e
 
   -- So it is there in every history.
-  pub history_keeps : R 0 none → {s : Script} {n : ℕ} {st : State} {events : List Event} {entries : List Entry} {turns : ℕ} → TakesBelow n → History s n st events entries turns
-      → Holds R st.rows
+  pub history_keeps : R 0 none → {s : Script} {n : ℕ} {x : Execution} → TakesBelow n → History s n x → Holds R x.state.rows
   history_keeps start runs opened = k.stands 0 none 1 _ row.Ready start
-  history_keeps start {s} {n} runs (then_event {st} h open_ e made m) = made_keeps s n runs st e made (history_keeps start runs h) m
+  history_keeps start {s} {n} runs (then_event {x} h open_ e made m) = made_keeps s n runs x.state e made (history_keeps start runs h) m
 
 -- ---- the numbers of seats rise
 
@@ -247,7 +245,7 @@ canonical_takes n p is next m t rank h = canonical_put m t _ h
 pub made_canonical : (s : Script) (n : ℕ) (st : State) (e : Event) (made : Made) → IsCanonical st.rows.seats → made_by s n st e ≡ Some made → IsCanonical made.state.rows.seats
 made_canonical s n st e made h m = made_keeps SeatsRise rise_is_kept s n (canonical_takes n) st e made h m
 
-pub history_canonical : {s : Script} {n : ℕ} {st : State} {events : List Event} {entries : List Entry} {turns : ℕ} → History s n st events entries turns → IsCanonical st.rows.seats
+pub history_canonical : {s : Script} {n : ℕ} {x : Execution} → History s n x → IsCanonical x.state.rows.seats
 history_canonical {s} {n} h = history_keeps SeatsRise rise_is_kept (canonical_none Seat) (canonical_takes n) h
 
 -- ---- only processors that are there have threads
@@ -262,5 +260,5 @@ seats_below_is_kept n = with_arrivals (AreBelow n) (below_is_kept n)
 below_takes : (n : ℕ) → TakesBelow (SeatsBelow n) (seats_below_is_kept n) n
 below_takes n p is next m t rank h = each_put (IsSeatBelow n) m t _ is h
 
-pub history_below : {s : Script} {n : ℕ} {st : State} {events : List Event} {entries : List Entry} {turns : ℕ} → History s n st events entries turns → AreBelow n st.rows.seats
+pub history_below : {s : Script} {n : ℕ} {x : Execution} → History s n x → AreBelow n x.state.rows.seats
 history_below {s} {n} h = history_keeps (SeatsBelow n) (seats_below_is_kept n) (each_none (IsSeatBelow n)) (below_takes n) h

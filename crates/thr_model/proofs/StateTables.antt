@@ -9,7 +9,6 @@ use Rattle.thr_values.specs.declared.event.Event.TheVariants as event
 use Rattle.thr_values.specs.declared.reply.Effect.TheVariants as effect
 use Rattle.thr_values.specs.declared.reply.Reply.{Reply}
 use Rattle.thr_values.specs.declared.reply.Reply.TheVariants as reply
-use Rattle.thr_values.specs.declared.history.Entry.{Entry}
 use Rattle.thr_syntax.specs.declared.dce.DceCall.{DceCall}
 use Rattle.thr_syntax.specs.declared.dce.DceCall.TheVariants as dce
 use Rattle.thr_syntax.specs.declared.tree.Item.{Item}
@@ -45,7 +44,7 @@ use Rattle.thr_model.specs.States.{State, Debt, Return, Delivery, Running, rank_
 use Rattle.thr_model.specs.Calls.{Answered, answered, cancelled, given_state, signals_one, woken_state, first}
 use Rattle.thr_model.specs.Turns.{Made, with_stores, stores_of, called, written_to, shared_made, handed_on, end_made, debt_made, halt_made, turn_by, kept, turn_of}
 use Rattle.thr_model.specs.Events.{dispatch_made, due_debt, due_owe, clock_to, clock_of, made_by}
-use Rattle.thr_model.specs.Histories.{History, opened, then_event}
+use Rattle.thr_model.specs.Histories.{Execution, History, opened, then_event}
 use Rattle.thr_model.specs.Canonical.{IsCanonicalState}
 use Rattle.thr_model.proofs.RowsKept.{history_canonical}
 use Rattle.thr_model.proofs.PartTables.{AreThreads, first_are, attr_create_are, attr_delete_are, put_attrs, create_are, detach_are, set_ended_are, put_records, set_mode_are, cancel_are, AreLocks, mutexattr_create_are, mutexattr_delete_are, setkind_are, init_are, destroy_are, with_mutex_are, lock_are, unlock_are, resume_are, wake_all_locks, AreConds, cond_init_are, cond_destroy_are, waits_are, without_wait_are, wake_all_conds, IsValued, AreOnces, keycreate_are, setspecific_are, next_destructor_are, enter_are, done_are, undone_are, ArePipes, first_pipes_are, read_are, write_are, close_are, pull_out_are}
@@ -357,14 +356,14 @@ opening_are s = record {
   shared = declared_is s.items;
 }
 
-history_are : {s : Script} {n : ℕ} {st : State} {events : List Event} {entries : List Entry} {turns : ℕ} → History s n st events entries turns → AreTables st
+history_are : {s : Script} {n : ℕ} {x : Execution} → History s n x → AreTables x.state
 history_are {s} opened = opening_are s
-history_are {s} {n} (then_event {st} h open_ e made m) = made_are s n st e made (history_are h) m
+history_are {s} {n} (then_event {x} h open_ e made m) = made_are s n x.state e made (history_are h) m
 
 -- In every history the numbers rise in each table of the state.
-pub canonical-state : {s : Script} {n : ℕ} {st : State} {events : List Event} {entries : List Entry} {turns : ℕ} → History s n st events entries turns → IsCanonicalState st
-canonical-state {st = st} h =
-    let t : AreTables st = history_are h in record {
+pub canonical-state : {s : Script} {n : ℕ} {x : Execution} → History s n x → IsCanonicalState x.state
+canonical-state {x = x} h =
+    let t : AreTables x.state = history_are h in record {
       records = t.threads.records;
       attrs = t.threads.attrs;
       remainders = t.remainders;

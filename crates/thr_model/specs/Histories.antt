@@ -56,14 +56,33 @@ turn_count (event.Dispatch p) = 0
 turn_count (event.Turn p) = 1
 turn_count event.Clock = 0
 
--- The machine of n processors, opened on the script, comes to this state by these events, the newest first. They make
--- these lines, the oldest first, and so many of them are turns. Where a stop holds there is no further event
--- (docs/machine.md, "Histories").
-pub data History (s : Script) (n : ℕ) : State → List Event → List Entry → ℕ → Type 0 where
-  opened : History s n (opening s) [] [] 0
-  then_event : {st : State} {events : List Event} {entries : List Entry} {turns : ℕ} → History s n st events entries turns
-      → stop_at s st (length entries) ≡ None → (e : Event) (made : Made) → made_by s n st e ≡ Some made
-      → History s n made.state (e ∷ events) (entries ++ made.lines) (turns + turn_count e)
+-- An execution of the machine: the state that it has come to, its events, the newest first, its lines, the oldest first, and
+-- how many of the events are turns (docs/machine.md, "Histories").
+pub record Execution : Type 0 where
+  pub state : State
+  pub events : List Event
+  pub entries : List Entry
+  pub turns : ℕ
+
+-- The execution at the opening, without an event (docs/machine.md, "Histories").
+abbrev pub at_opening : Script → Execution
+at_opening s = record { state = opening s; events = []; entries = []; turns = 0 }
+
+-- The execution after one more event, which made this (docs/machine.md, "Histories").
+abbrev pub after_event : Execution → Event → Made → Execution
+after_event x e made = record {
+  state = made.state;
+  events = e ∷ x.events;
+  entries = x.entries ++ made.lines;
+  turns = x.turns + turn_count e;
+}
+
+-- The executions of the machine of n processors that was opened on the script: that at the opening, and each further one by
+-- an event that is legal where no stop holds (docs/machine.md, "Histories").
+pub data History (s : Script) (n : ℕ) : Execution → Type 0 where
+  opened : History s n (at_opening s)
+  then_event : {x : Execution} → History s n x → stop_at s x.state (length x.entries) ≡ None → (e : Event) (made : Made) → made_by s n x.state e ≡ Some made
+      → History s n (after_event x e made)
 
 -- The stop is the one that holds, or want of memory where none does (docs/machine.md, "Stops").
 abbrev pub StopsWith : Option Stop → Stop → Type 0
@@ -73,8 +92,7 @@ StopsWith (Some holds) stop = stop ≡ holds
 -- These are the lines of a history of the machine of n processors that was opened on the script, and it stops so
 -- (docs/machine.md, "Histories").
 pub record Legal (s : Script) (n : ℕ) (entries : List Entry) (stop : Stop) : Type 0 where
-  pub state : State
-  pub events : List Event
-  pub turns : ℕ
-  pub history : History s n state events entries turns
-  pub stops : StopsWith (stop_at s state (length entries)) stop
+  pub execution : Execution
+  pub history : History s n execution
+  pub lines : execution.entries ≡ entries
+  pub stops : StopsWith (stop_at s execution.state (length entries)) stop

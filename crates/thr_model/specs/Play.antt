@@ -1,48 +1,26 @@
 -- Events of one's choice, played from the opening, so that a worked history computes (docs/theorems.md, "Laws of the machine").
-use Rattle.std.specs.Prelude.{ℕ, zero, suc, ◌+◌, List, [], ◌∷◌, ◌++◌, length, Bool, true, false, is_none, is_some, unwrap_or, if◌then◌else◌, Option, None, Some}
+use Rattle.std.specs.Prelude.{ℕ, zero, suc, List, [], ◌∷◌, length, Bool, true, false, is_none, is_some, unwrap_or, if◌then◌else◌, Option, None, Some}
 use Rattle.std.specs.Option.{option_and_then, option_map}
 use Rattle.thr_values.specs.declared.event.Event.{Event}
 use Rattle.thr_values.specs.declared.event.Event.TheVariants as event
-use Rattle.thr_values.specs.declared.history.Entry.{Entry}
 use Rattle.thr_syntax.specs.declared.tree.Script.{Script}
 use Rattle.thr_parts.specs.Dispatch.{running, some_can_run}
-use Rattle.thr_model.specs.States.{State, opening}
-use Rattle.thr_model.specs.Turns.{Made}
+use Rattle.thr_model.specs.States.{State}
 use Rattle.thr_model.specs.Events.{made_by}
-use Rattle.thr_model.specs.Histories.{stop_at, turn_count}
+use Rattle.thr_model.specs.Histories.{Execution, at_opening, after_event, stop_at}
 
--- How far a history has come: its state, its events, the newest first, its lines and how many of the events are turns.
-pub record Past : Type 0 where
-  pub state : State
-  pub events : List Event
-  pub entries : List Entry
-  pub turns : ℕ
+-- One more event, where it is legal (docs/machine.md, "Histories").
+abbrev pub next : Script → ℕ → Execution → Event → Option Execution
+next s n x e = if is_none (stop_at s x.state (length x.entries)) then option_map (after_event x e) (made_by s n x.state e) else None
 
--- The past at the opening, without an event (docs/machine.md, "Histories").
-abbrev pub past_of : Script → Past
-past_of s = record { state = opening s; events = []; entries = []; turns = 0 }
+-- These events, the oldest first, one after the other (docs/machine.md, "Histories").
+unfoldable pub play : Script → ℕ → List Event → Execution → Option Execution
+play s n [] x = Some x
+play s n (e ∷ events) x = option_and_then (play s n events) (next s n x e)
 
--- The past after one more event, which made this (docs/machine.md, "Histories").
-abbrev pub after_event : Past → Event → Made → Past
-after_event past e made = record {
-  state = made.state;
-  events = e ∷ past.events;
-  entries = past.entries ++ made.lines;
-  turns = past.turns + turn_count e;
-}
-
--- One more event, where it is legal.
-abbrev pub next : Script → ℕ → Past → Event → Option Past
-next s n past e = if is_none (stop_at s past.state (length past.entries)) then option_map (after_event past e) (made_by s n past.state e) else None
-
--- These events, the oldest first, one after the other.
-unfoldable pub play : Script → ℕ → List Event → Past → Option Past
-play s n [] past = Some past
-play s n (e ∷ events) past = option_and_then (play s n events) (next s n past e)
-
--- What these events make of a script, or its opening where one of them isn't legal.
-abbrev pub past_by : Script → ℕ → List Event → Past
-past_by s n events = unwrap_or (play s n events (past_of s)) (past_of s)
+-- What these events make of a script, or its opening where one of them isn't legal (docs/machine.md, "Histories").
+abbrev pub execution_by : Script → ℕ → List Event → Execution
+execution_by s n events = unwrap_or (play s n events (at_opening s)) (at_opening s)
 
 -- ---- one processor
 
@@ -56,12 +34,13 @@ event_where false false = event.Clock
 abbrev pub only_event : State → Event
 only_event st = event_where (is_some (running st.rows 0)) (some_can_run st.rows)
 
--- What comes of the past after one more event, or this past where that event isn't legal (docs/machine.md, "Histories").
-abbrev pub goes_further : (Past → Past) → Past → Option Past → Past
-goes_further further past None = past
-goes_further further past (Some after) = further after
+-- What comes of the execution after one more event, or this execution where that event isn't legal (docs/machine.md,
+-- "Histories").
+abbrev pub goes_further : (Execution → Execution) → Execution → Option Execution → Execution
+goes_further further x None = x
+goes_further further x (Some after) = further after
 
--- The history on one processor after at most so many events more, as far as it goes.
-unfoldable pub alone : ℕ → Script → Past → Past
-alone zero s past = past
-alone (suc k) s past = goes_further (alone k s) past (next s 1 past (only_event past.state))
+-- The execution on one processor after at most so many events more, as far as it goes (docs/machine.md, "Histories").
+unfoldable pub alone : ℕ → Script → Execution → Execution
+alone zero s x = x
+alone (suc k) s x = goes_further (alone k s) x (next s 1 x (only_event x.state))

@@ -33,7 +33,7 @@ use Rattle.thr_model.specs.States.{State, Debt, Return, Delivery, Running, rank_
 use Rattle.thr_model.specs.Calls.{Answered, answered}
 use Rattle.thr_model.specs.Turns.{Made, thread_line, gift_lines, moved, called, after_reply, written_to, shared_made, delivery_made, handed_on, end_made, begun_at, debt_made, halt_made, turn_by, turn_of}
 use Rattle.thr_model.specs.Events.{clock_line, dispatch_made, clock_made, clock_to, clock_of, made_by}
-use Rattle.thr_model.specs.Histories.{History, opened, then_event}
+use Rattle.thr_model.specs.Histories.{Execution, History, opened, then_event}
 use Rattle.thr_laws.specs.Owners.{Lock, OneOwner, owner, at_first, held_after, kind_in}
 use Rattle.thr_laws.specs.Owners as told
 use Rattle.thr_owners.specs.Told.{as_told, IsKind, IsTold, view, Agrees, known_of}
@@ -170,11 +170,11 @@ event-carries k s n st event.Clock made e = clock_makes k st (some_can_run st.ro
 -- ---- histories
 
 -- The lines of a history lead from the opening to the state that it comes to.
-history_carries : {s : Script} {n : ℕ} {st : State} {events : List Event} {entries : List Entry} {turns : ℕ} (k : Lock) → History s n st events entries turns
-    → Carries k (view k no_locks) (view k st.locks) entries
+history_carries : {s : Script} {n : ℕ} {x : Execution} (k : Lock) → History s n x
+    → Carries k (view k no_locks) (view k x.state.locks) x.entries
 history_carries k opened = no_line k (view k no_locks)
-history_carries {s} {n} k (then_event {st} {entries = entries} h open_ e made m) =
-    then_lines k (view k no_locks) (view k st.locks) (view k made.state.locks) entries made.lines (history_carries k h) (event-carries k s n st e made m)
+history_carries {s} {n} k (then_event {x} h open_ e made m) =
+    then_lines k (view k no_locks) (view k x.state.locks) (view k made.state.locks) x.entries made.lines (history_carries k h) (event-carries k s n x.state e made m)
 
 first_lock : (k : Lock) → IsTold (mutex_at no_locks k) (at_first k).kind (at_first k).owner
 first_lock None = (refl, refl)
@@ -187,30 +187,30 @@ first_agrees k = record {
 }
 
 -- Along the lines of a history each fits, and what they tell agrees with the state.
-history_carried : {s : Script} {n : ℕ} {st : State} {events : List Event} {entries : List Entry} {turns : ℕ} (k : Lock) → History s n st events entries turns
-    → Carried k (at_first k) (view k st.locks) entries
+history_carried : {s : Script} {n : ℕ} {x : Execution} (k : Lock) → History s n x
+    → Carried k (at_first k) (view k x.state.locks) x.entries
 history_carried k h = history_carries k h (at_first k) (first_agrees k)
 
-pub one-owner : {s : Script} {n : ℕ} {st : State} {events : List Event} {entries : List Entry} {turns : ℕ} → History s n st events entries turns → OneOwner entries
+pub one-owner : {s : Script} {n : ℕ} {x : Execution} → History s n x → OneOwner x.entries
 one-owner h = record { one = λ k. (history_carried k h).fit }
 
-pub told-agrees : {s : Script} {n : ℕ} {st : State} {events : List Event} {entries : List Entry} {turns : ℕ} → History s n st events entries turns
-    → (k : Lock) → Agrees (view k st.locks) (known_of k entries)
+pub told-agrees : {s : Script} {n : ℕ} {x : Execution} → History s n x
+    → (k : Lock) → Agrees (view k x.state.locks) (known_of k x.entries)
 told-agrees h k = (history_carried k h).agrees
 
 owner_told : (u : Option Mutex) (kind : Kind) (o : Option told.Owner) → IsTold u kind o → o ≡ as_told (owner_in u)
 owner_told None kind o a = a
-owner_told (Some x) kind o a = a.1
+owner_told (Some mutex) kind o a = a.1
 
-pub owner-told : {s : Script} {n : ℕ} {st : State} {events : List Event} {entries : List Entry} {turns : ℕ} → History s n st events entries turns
-    → (k : Lock) → owner entries k ≡ as_told (parts.owner st.locks k)
-owner-told {st = st} {entries = entries} h k = owner_told (mutex_at st.locks k) (known_of k entries).kind (known_of k entries).owner (told-agrees h k).lock
+pub owner-told : {s : Script} {n : ℕ} {x : Execution} → History s n x
+    → (k : Lock) → owner x.entries k ≡ as_told (parts.owner x.state.locks k)
+owner-told {x = x} h k = owner_told (mutex_at x.state.locks k) (known_of k x.entries).kind (known_of k x.entries).owner (told-agrees h k).lock
 
-pub cell-told : {s : Script} {n : ℕ} {st : State} {events : List Event} {entries : List Entry} {turns : ℕ} → History s n st events entries turns
-    → (k : Lock) (cell : ℕ) (kind : Kind) → get st.locks.kinds cell ≡ Some kind → kind_in (known_of k entries).cells cell ≡ kind
-cell-told {entries = entries} h k cell kind e = subst (λ (o : Option Kind). IsKind o (kind_in (known_of k entries).cells cell)) e ((told-agrees h k).cells cell)
+pub cell-told : {s : Script} {n : ℕ} {x : Execution} → History s n x
+    → (k : Lock) (cell : ℕ) (kind : Kind) → get x.state.locks.kinds cell ≡ Some kind → kind_in (known_of k x.entries).cells cell ≡ kind
+cell-told {x = x} h k cell kind e = subst (λ (o : Option Kind). IsKind o (kind_in (known_of k x.entries).cells cell)) e ((told-agrees h k).cells cell)
 
-pub kind-told : {s : Script} {n : ℕ} {st : State} {events : List Event} {entries : List Entry} {turns : ℕ} → History s n st events entries turns
-    → (k : Lock) (x : Mutex) → mutex_at st.locks k ≡ Some x → (known_of k entries).kind ≡ x.kind
-kind-told {entries = entries} h k x e =
-    (subst (λ (u : Option Mutex). IsTold u (known_of k entries).kind (known_of k entries).owner) e (told-agrees h k).lock).0
+pub kind-told : {s : Script} {n : ℕ} {x : Execution} → History s n x
+    → (k : Lock) (mutex : Mutex) → mutex_at x.state.locks k ≡ Some mutex → (known_of k x.entries).kind ≡ mutex.kind
+kind-told {x = x} h k mutex e =
+    (subst (λ (u : Option Mutex). IsTold u (known_of k x.entries).kind (known_of k x.entries).owner) e (told-agrees h k).lock).0

@@ -11,8 +11,8 @@ use Rattle.thr_remainder.specs.Remainders.{Remainder, Role, Place, At, act_at, p
 use Rattle.thr_parts.specs.Tables.{get}
 use Rattle.thr_laws.specs.Lines.{lines_of_thread}
 use Rattle.thr_laws.specs.Routed.{numbers_count_up, only_made_are_carried, Routed}
-use Rattle.thr_model.specs.States.{State}
-use Rattle.thr_model.specs.Histories.{Legal}
+use Rattle.thr_model.specs.Histories.{Execution, History, Legal}
+use Rattle.thr_model.proofs.Legality.{of-legal}
 use Rattle.thr_routes.specs.Courses.{Outline, outline, Course, HasClauses}
 use Rattle.thr_routes.specs.Reaching.{IsRightReturn, IsRightAct, IsRightAt, IsRight, AnyWays, ReturnsLeaveNoScope}
 use Rattle.thr_routes.specs.Sound.{StaysSound}
@@ -46,24 +46,29 @@ life_course s HasWays MayReturn right next u None lines h = h.0
 life_course s HasWays MayReturn right next u (Some r) lines h = h.0
 
 -- What the lines of a thread are a course of.
-legal_course : (s : Script) (HasWays : ℕ → Ways → Type 0) (MayReturn : Type 0) → IsRight s HasWays MayReturn → (n : ℕ) (entries : List Entry) (stop : Stop) → Legal s n entries stop → (t : ℕ)
-    → (o : Option Outline) × Course s HasWays MayReturn o (lines_of_thread t entries)
-legal_course s HasWays MayReturn right n entries stop legal t =
-    let st : State = legal.state in (
-      option_map outline (get st.remainders t),
-      life_course s HasWays MayReturn right st.threads.next t (get st.remainders t) (lines_of_thread t entries) (history_lives s HasWays MayReturn right legal.history t),
-    )
+abbrev AreCourses : (s : Script) → (ℕ → Ways → Type 0) → Type 0 → List Entry → Type 0
+AreCourses s HasWays MayReturn entries = (t : ℕ) → (o : Option Outline) × Course s HasWays MayReturn o (lines_of_thread t entries)
+
+history_courses : (s : Script) (HasWays : ℕ → Ways → Type 0) (MayReturn : Type 0) → IsRight s HasWays MayReturn → {n : ℕ} (x : Execution) → History s n x → AreCourses s HasWays MayReturn x.entries
+history_courses s HasWays MayReturn right x h t = (
+  option_map outline (get x.state.remainders t),
+  life_course s HasWays MayReturn right x.state.threads.next t (get x.state.remainders t) (lines_of_thread t x.entries) (history_lives s HasWays MayReturn right h t),
+)
+
+legal_courses : (s : Script) (HasWays : ℕ → Ways → Type 0) (MayReturn : Type 0) → IsRight s HasWays MayReturn → (n : ℕ) (entries : List Entry) (stop : Stop) → Legal s n entries stop
+    → AreCourses s HasWays MayReturn entries
+legal_courses s HasWays MayReturn right n entries stop legal = of-legal (AreCourses s HasWays MayReturn) (λ x h. history_courses s HasWays MayReturn right x h) legal
 
 pub legal_numbered : (s : Script) (n : ℕ) (entries : List Entry) (stop : Stop) → Legal s n entries stop → (t : ℕ) → (numbers_count_up (lines_of_thread t entries) ≡ true) × (only_made_are_carried (lines_of_thread t entries) ≡ true)
 legal_numbered s n entries stop legal t =
-    let c = legal_course s AnyWays (Unit {0}) (any_right s) n entries stop legal t in (
+    let c = legal_courses s AnyWays (Unit {0}) (any_right s) n entries stop legal t in (
       course_numbered s AnyWays (Unit {0}) c.0 (lines_of_thread t entries) c.1,
       course_made s AnyWays (Unit {0}) c.0 (lines_of_thread t entries) c.1,
     )
 
 pub legal_routed : (s : Script) (n : ℕ) (entries : List Entry) (stop : Stop) → ReturnsLeaveNoScope s → Legal s n entries stop → Routed s entries
 legal_routed s n entries stop right legal =
-    let c = legal_course s (HasClauses s) ⊥ (right_ways s right) n entries stop legal in record {
+    let c = legal_courses s (HasClauses s) ⊥ (right_ways s right) n entries stop legal in record {
       numbered = λ t. course_numbered s (HasClauses s) ⊥ (c t).0 (lines_of_thread t entries) (c t).1;
       made = λ t. course_made s (HasClauses s) ⊥ (c t).0 (lines_of_thread t entries) (c t).1;
       kept = λ t. course_kept s (c t).0 (lines_of_thread t entries) (c t).1;

@@ -30,7 +30,7 @@ use Rattle.thr_model.specs.States.{State, Debt, rank_of, remainder_of, setting_o
 use Rattle.thr_model.specs.Calls.{Gifts, answered}
 use Rattle.thr_model.specs.Turns.{Made, gift_lines, turn_by, kept, is_fifo_in, turn_of}
 use Rattle.thr_model.specs.Events.{dispatch_made, clock_made, clock_to, clock_of, made_by}
-use Rattle.thr_model.specs.Histories.{History, opened, then_event}
+use Rattle.thr_model.specs.Histories.{Execution, History, opened, then_event}
 use Rattle.thr_model.proofs.RowsKept.{history_canonical}
 use Rattle.thr_answers.specs.Statuses.{Status, Absent, Calm, Waiting, Astray, by_row, status, status_of}
 use Rattle.thr_answers.proofs.StatusMoves.{with_put}
@@ -186,18 +186,20 @@ module _ (s : Script) (HasWays : ℕ → Ways → Type 0) (MayReturn : Type 0) (
       opening_left : Remainder
       opening_left = fresh s (main_of s) (pos 0)
 
-  history_owed : {n : ℕ} {st : State} {events : List Event} {entries : List Entry} {turns : ℕ} → History s n st events entries turns → Owed st × Living st entries
+  history_owed : {n : ℕ} {x : Execution} → History s n x → Owed x.state × Living x.state x.entries
   history_owed opened = (opening_owed, opening_lives s HasWays MayReturn right)
-  history_owed {n} (then_event {st} {events} {entries} h open_ e made m) =
-      let before : Owed st × Living st entries = history_owed h in
-      let a : Agrees s st entries = agrees h in
-      let sound : IsSound s st = is_sound s st a.order (history_canonical h) before.0 in
-      (made_owed n st entries e made a.order (history_canonical h) sound before.1 before.0 m, made_good s HasWays MayReturn right n st entries e made sound before.1 m)
+  history_owed {n} (then_event {x} h open_ e made m) =
+      let before : Owed x.state × Living x.state x.entries = history_owed h in
+      let a : Agrees s x.state x.entries = agrees h in
+      let sound : IsSound s x.state = is_sound s x.state a.order (history_canonical h) before.0 in (
+        made_owed n x.state x.entries e made a.order (history_canonical h) sound before.1 before.0 m,
+        made_good s HasWays MayReturn right n x.state x.entries e made sound before.1 m,
+      )
 
   -- In every history each thread's lines are a course.
-  pub history_lives : {n : ℕ} {st : State} {events : List Event} {entries : List Entry} {turns : ℕ} → History s n st events entries turns → Living st entries
+  pub history_lives : {n : ℕ} {x : Execution} → History s n x → Living x.state x.entries
   history_lives h = (history_owed h).1
 
   -- Every history stays sound.
   pub histories_sound : (n : ℕ) → StaysSound s n
-  histories_sound n = record { sound = λ st events entries turns h. (let a : Agrees s st entries = agrees h in is_sound s st a.order (history_canonical h) (history_owed h).0) }
+  histories_sound n = record { sound = λ x h. (let a : Agrees s x.state x.entries = agrees h in is_sound s x.state a.order (history_canonical h) (history_owed h).0) }

@@ -2,7 +2,6 @@
 use Rattle.std.specs.Prelude.{◌≡◌, ℕ, ℤ, List, [], ◌∷◌, Option, Some, None}
 use Rattle.thr_values.specs.declared.number.NameId.{NameId}
 use Rattle.thr_values.specs.declared.number.Tid.{Tid}
-use Rattle.thr_values.specs.declared.event.Event.{Event}
 use Rattle.thr_values.specs.declared.history.What.TheVariants as what
 use Rattle.thr_values.specs.declared.history.Entry.{Entry}
 use Rattle.thr_syntax.specs.declared.dce.DceCall.{DceCall}
@@ -14,7 +13,7 @@ use Rattle.thr_model.specs.States.{State, Debt}
 use Rattle.thr_model.specs.Calls.{answered}
 use Rattle.thr_model.specs.Turns.{thread_line, gift_lines}
 use Rattle.thr_model.specs.Events.{clock_line, clock_to}
-use Rattle.thr_model.specs.Histories.{History}
+use Rattle.thr_model.specs.Histories.{Execution, History}
 
 -- The thread has something left to do.
 abbrev pub IsThere : State → ℕ → Type 0
@@ -43,4 +42,4 @@ pub record IsSound (s : Script) (st : State) : Type 0 where
 
 -- So it is in each history of the script on n processors.
 pub record StaysSound (s : Script) (n : ℕ) : Type 0 where
-  pub sound : (st : State) (events : List Event) (entries : List Entry) (turns : ℕ) → History s n st events entries turns → IsSound s st
+  pub sound : (x : Execution) → History s n x → IsSound s x.state

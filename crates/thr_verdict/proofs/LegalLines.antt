@@ -23,7 +23,7 @@ use Rattle.thr_parts.proofs.RunningLaws.{HasProcessor, running_seat}
 use Rattle.thr_model.specs.States.{State, opening}
 use Rattle.thr_model.specs.Turns.{Made}
 use Rattle.thr_model.specs.Events.{made_by}
-use Rattle.thr_model.specs.Histories.{History, opened, then_event, StopsWith, Legal, stop_at}
+use Rattle.thr_model.specs.Histories.{Execution, History, opened, then_event, StopsWith, Legal, stop_at}
 use Rattle.thr_model.proofs.RowsKept.{history_canonical}
 use Rattle.thr_model.proofs.FirstLines.{Names, made_names}
 use Rattle.thr_verdict.specs.Verdicts.{Differs, differs_at}
@@ -106,25 +106,25 @@ event_checked k s n stop count st e made rest c open_ is =
 -- ---- histories
 
 -- What is wrong first in the lines of a history and more is what is wrong first in those from its state on.
-history_checked : {s : Script} {n : ℕ} {st : State} {events : List Event} {entries : List Entry} {turns : ℕ} (stop : Stop) → History s n st events entries turns → (k : ℕ) (rest : List Entry)
-    → wrong_in (length events + k) s n stop 0 (opening s) (entries ++ rest) ≡ wrong_in k s n stop (length entries) st rest
+history_checked : {s : Script} {n : ℕ} {x : Execution} (stop : Stop) → History s n x → (k : ℕ) (rest : List Entry)
+    → wrong_in (length x.events + k) s n stop 0 (opening s) (x.entries ++ rest) ≡ wrong_in k s n stop (length x.entries) x.state rest
 history_checked {s} {n} stop opened k rest = ap (λ f. wrong_in f s n stop 0 (opening s) rest) (zero-add k)
-history_checked {s} {n} stop (then_event {st = st} {events = events} {entries = entries} h open_ e made is) k rest =
-    let room : length (e ∷ events) + k ≡ length events + suc k = grind (arith) in
-    ap (λ f. wrong_in f s n stop 0 (opening s) ((entries ++ made.lines) ++ rest)) room
-    ∙ ap (wrong_in (length events + suc k) s n stop 0 (opening s)) (append_assoc entries made.lines rest)
+history_checked {s} {n} stop (then_event {x} h open_ e made is) k rest =
+    let room : length (e ∷ x.events) + k ≡ length x.events + suc k = grind (arith) in
+    ap (λ f. wrong_in f s n stop 0 (opening s) ((x.entries ++ made.lines) ++ rest)) room
+    ∙ ap (wrong_in (length x.events + suc k) s n stop 0 (opening s)) (append_assoc x.entries made.lines rest)
     ∙ history_checked stop h (suc k) (made.lines ++ rest)
-    ∙ event_checked k s n stop (length entries) st e made rest (history_canonical h) open_ is
-    ∙ ap (λ count. wrong_in k s n stop count made.state rest) (sym (length-append entries made.lines))
+    ∙ event_checked k s n stop (length x.entries) x.state e made rest (history_canonical h) open_ is
+    ∙ ap (λ count. wrong_in k s n stop count made.state rest) (sym (length-append x.entries made.lines))
 
 -- A history has no more events than lines.
-no_more_events : {s : Script} {n : ℕ} {st : State} {events : List Event} {entries : List Entry} {turns : ℕ} → History s n st events entries turns → length events ≤ length entries
+no_more_events : {s : Script} {n : ℕ} {x : Execution} → History s n x → length x.events ≤ length x.entries
 no_more_events opened = zero-le
-no_more_events {s} {n} (then_event {st = st} {events = events} {entries = entries} h open_ e made is) =
-    let before : length events ≤ length entries = no_more_events h in
-    let one : 1 ≤ length made.lines = some_line st.rows e made.lines (made_names s n st e made is) in
-    let sum : suc (length events) ≤ length entries + length made.lines = grind (arith) in
-    subst (λ count. suc (length events) ≤ count) (sym (length-append entries made.lines)) sum
+no_more_events {s} {n} (then_event {x} h open_ e made is) =
+    let before : length x.events ≤ length x.entries = no_more_events h in
+    let one : 1 ≤ length made.lines = some_line x.state.rows e made.lines (made_names s n x.state e made is) in
+    let sum : suc (length x.events) ≤ length x.entries + length made.lines = grind (arith) in
+    subst (λ count. suc (length x.events) ≤ count) (sym (length-append x.entries made.lines)) sum
 
 stop_is_right : (more : ℕ → State → List Entry → Option Wrong) (s : Script) (n : ℕ) (stop : Stop) (holds : Option Stop) (count : ℕ) (st : State) → StopsWith holds stop
     → at_boundary more s n stop holds count st [] ≡ None
@@ -135,16 +135,22 @@ end_checked : (k : ℕ) (s : Script) (n : ℕ) (stop : Stop) (count : ℕ) (st :
 unfolding wrong_in
 end_checked k s n stop count st h = stop_is_right (wrong_in k s n stop) s n stop (stop_at s st count) count st h
 
+-- No place of a history that stops is wrong.
+none_wrong_of : (s : Script) (n : ℕ) (x : Execution) (stop : Stop) → History s n x → StopsWith (stop_at s x.state (length x.entries)) stop → wrong_of s n x.entries stop ≡ None
+none_wrong_of s n x stop h stops =
+    let fits : length x.events ≤ length x.entries = no_more_events h in
+    let left : ℕ = length x.entries - length x.events in
+    let room : length x.entries + 1 ≡ length x.events + suc (length x.entries - length x.events) = grind (arith) in
+    ap (λ f. wrong_in f s n stop 0 (opening s) x.entries) room
+    ∙ ap (wrong_in (length x.events + suc left) s n stop 0 (opening s)) (sym (append-nil x.entries))
+    ∙ history_checked stop h (suc left) []
+    ∙ end_checked left s n stop (length x.entries) x.state stops
+
 -- No place of a legal history is wrong.
 pub none_wrong : (s : Script) (n : ℕ) (entries : List Entry) (stop : Stop) → Legal s n entries stop → wrong_of s n entries stop ≡ None
 none_wrong s n entries stop l =
-    let fits : length l.events ≤ length entries = no_more_events l.history in
-    let left : ℕ = length entries - length l.events in
-    let room : length entries + 1 ≡ length l.events + suc (length entries - length l.events) = grind (arith) in
-    ap (λ f. wrong_in f s n stop 0 (opening s) entries) room
-    ∙ ap (wrong_in (length l.events + suc left) s n stop 0 (opening s)) (sym (append-nil entries))
-    ∙ history_checked stop l.history (suc left) []
-    ∙ end_checked left s n stop (length entries) l.state l.stops
+    let stops : StopsWith (stop_at s l.execution.state (length l.execution.entries)) stop = subst (λ (es : List Entry). StopsWith (stop_at s l.execution.state (length es)) stop) (sym l.lines) l.stops in
+    subst (λ (es : List Entry). wrong_of s n es stop ≡ None) l.lines (none_wrong_of s n l.execution stop l.history stops)
 
 -- So no line of its journal differs.
 pub no_line_differs : (j : Journal) → Legal j.script j.workers j.entries j.stop → first_wrong j ≡ None

@@ -16,10 +16,11 @@ use Rattle.thr_text.specs.Journals as journals
 use Rattle.thr_text.specs.Journals.{numbered_line, numbered, who_word, what_words, text}
 use Rattle.thr_parts.specs.Rows.{thread}
 use Rattle.thr_parts.proofs.EntryLaws.{both_true}
-use Rattle.thr_model.specs.States.{State, opening}
+use Rattle.thr_model.specs.States.{State}
 use Rattle.thr_model.specs.Turns.{Made}
 use Rattle.thr_model.specs.Events.{made_by}
-use Rattle.thr_model.specs.Histories.{History, opened, then_event, StopsWith, Legal, stop_at}
+use Rattle.thr_model.specs.Histories.{Execution, at_opening, History, opened, then_event, StopsWith, Legal, stop_at}
+use Rattle.thr_model.proofs.Plays.{execution-legal}
 use Rattle.thr_model.proofs.FirstLines.{made_names}
 use Rattle.thr_verdict.specs.Verdicts.{differs_at}
 use Rattle.thr_verdict.specs.FirstWrong.{Wrong, event_of, made_at, is_same_line, lines_after, is_same_stop, goes_on, after_event, at_boundary, wrong_in, wrong_of, first_wrong}
@@ -127,11 +128,11 @@ record GoesOnLegally (s : Script) (n : ℕ) (stop : Stop) (before rest : List En
   legal : Legal s n (before ++ behind) stop
   same : AreSame s.names behind rest
 
-ends_legally : {s : Script} {n : ℕ} {st : State} {events : List Event} {entries : List Entry} {turns : ℕ} (stop : Stop) → History s n st events entries turns → (rest : List Entry)
-    → StopsWith (stop_at s st (length entries)) stop → rest ≡ [] → GoesOnLegally s n stop entries rest
-ends_legally {s} {n} {st} {events} {entries} {turns} stop h rest ends none = record {
+ends_legally : {s : Script} {n : ℕ} {x : Execution} (stop : Stop) → History s n x → (rest : List Entry)
+    → StopsWith (stop_at s x.state (length x.entries)) stop → rest ≡ [] → GoesOnLegally s n stop x.entries rest
+ends_legally {s} {n} {x} stop h rest ends none = record {
   behind = [];
-  legal = subst (λ (es : List Entry). Legal s n es stop) (sym (append-nil entries)) (record { state = st; events = events; turns = turns; history = h; stops = ends });
+  legal = subst (λ (es : List Entry). Legal s n es stop) (sym (append-nil x.entries)) (execution-legal s n x stop h ends);
   same = subst (λ (es : List Entry). AreSame s.names [] es) (sym none) neither;
 }
 
@@ -157,25 +158,25 @@ less_left names count k lines rest left stands some fits =
     let same : length lines ≡ length x.0 = same_length x.1 in
     grind (arith)
 
-right_from : (k : ℕ) {s : Script} {n : ℕ} {st : State} {events : List Event} {entries : List Entry} {turns : ℕ} (stop : Stop) → History s n st events entries turns → (rest : List Entry)
-    → length rest < k → wrong_in k s n stop (length entries) st rest ≡ None → GoesOnLegally s n stop entries rest
+right_from : (k : ℕ) {s : Script} {n : ℕ} {x : Execution} (stop : Stop) → History s n x → (rest : List Entry)
+    → length rest < k → wrong_in k s n stop (length x.entries) x.state rest ≡ None → GoesOnLegally s n stop x.entries rest
 unfolding wrong_in
 right_from zero stop h rest fits right = absurd (grind (arith))
-right_from (suc k) {s} {n} {st} {events} {entries} {turns} stop h rest fits right =
-    elim (boundary_is (wrong_in k s n stop) s n stop (stop_at s st (length entries)) (length entries) st rest right) [
-      | inl x ↦ ends_legally stop h rest x.0 x.1
-      | inr x ↦
-          let g = x.1 in
-          let some : 1 ≤ length g.made.lines = some_line st.rows g.by g.made.lines (made_names s n st g.by g.made g.is) in
-          event_more s n stop (length entries) entries g.made.lines rest g.left g.stands
-          (right_from k stop (then_event h x.0 g.by g.made g.is) g.left (less_left s.names (length entries) k g.made.lines rest g.left g.stands some fits)
-          (subst (λ count. wrong_in k s n stop count g.made.state g.left ≡ None) (sym (length-append entries g.made.lines)) g.right))
+right_from (suc k) {s} {n} {x} stop h rest fits right =
+    elim (boundary_is (wrong_in k s n stop) s n stop (stop_at s x.state (length x.entries)) (length x.entries) x.state rest right) [
+      | inl end_ ↦ ends_legally stop h rest end_.0 end_.1
+      | inr on ↦
+          let g = on.1 in
+          let some : 1 ≤ length g.made.lines = some_line x.state.rows g.by g.made.lines (made_names s n x.state g.by g.made g.is) in
+          event_more s n stop (length x.entries) x.entries g.made.lines rest g.left g.stands
+          (right_from k stop (then_event h on.0 g.by g.made g.is) g.left (less_left s.names (length x.entries) k g.made.lines rest g.left g.stands some fits)
+          (subst (λ count. wrong_in k s n stop count g.made.state g.left ≡ None) (sym (length-append x.entries g.made.lines)) g.right))
     ]
 
 -- Where no place is wrong a legal history has the journal's text.
 pub right_text : (s : Script) (n : ℕ) (entries : List Entry) (stop : Stop) → wrong_of s n entries stop ≡ None → (made : List Entry) × Legal s n made stop × (text s n made stop ≡ text s n entries stop)
 right_text s n entries stop right =
-    let start : History s n (opening s) [] [] 0 = opened in
+    let start : History s n (at_opening s) = opened in
     let fits : length entries < length entries + 1 = grind (arith) in
     let g : GoesOnLegally s n stop [] entries = right_from (length entries + 1) stop start entries fits right in
     (g.behind, g.legal, same_text s n g.behind entries stop g.same)

@@ -2,4 +2,4 @@ use Rattle.thr_answers.proofs.AnswerTurns.{agrees}
 use Rattle.thr_answers.proofs.laws.lines_tell_who_waits.Goals as goal
 
 pub returns : goal.returns
-returns c = λ s n state events entries turns h t. (agrees h).waiting t
+returns c = λ s n x h t. (agrees h).waiting t
