@@ -55,6 +55,6 @@ pub record IsRight (s : Script) (HasWays : ℕ → Ways → Type 0) (MayReturn :
 abbrev pub AnyWays : ℕ → Ways → Type 0
 AnyWays line ways = Unit {0}
 
--- A return that a thread can come to stands in no scope of its routine: what it leaves is a call (docs/script.md, "Lines").
+-- A return that a thread can come to stands in no scope of its routine: what it leaves is a call (docs/script.md, "Blocks").
 abbrev pub ReturnsLeaveNoScope : Script → Type 0
 ReturnsLeaveNoScope s = IsRight s AnyWays ⊥

@@ -1,4 +1,4 @@
--- Returns that stand in tries (docs/script.md, "Lines").
+-- Returns that stand in tries (docs/script.md, "Blocks").
 use Rattle.std.specs.Prelude.{ℕ, List, [], ◌∷◌}
 use Rattle.thr_syntax.specs.declared.form.Form.{Form}
 use Rattle.thr_syntax.specs.declared.form.Form.TheVariants as form
@@ -18,7 +18,7 @@ abbrev pub NoReturns : List Form → Type 0
 NoReturns [] = Unit {0}
 NoReturns (f ∷ fs) = IsNoReturn f × NoReturns fs
 
--- No try that stands in the script has a return among its lines (docs/script.md, "Lines").
+-- No try that stands in the script has a return among its lines (docs/script.md, "Blocks").
 pub record TriesHaveNoReturns (s : Script) : Type 0 where
   pub catching : (body : List Stmt) (clauses : List Clause) (line : ℕ) → StandAt (lines_of s) line (stmt_lines (TryCatch body clauses)) → NoReturns (stmt_lines (TryCatch body clauses))
   pub finishing : (body final : List Stmt) (line : ℕ) → StandAt (lines_of s) line (stmt_lines (TryFinally body final)) → NoReturns (stmt_lines (TryFinally body final))
