@@ -1,6 +1,4 @@
 pub mod Built
-pub mod Bodies
-pub mod Alone
+pub mod Passing
 pub mod Views
 pub mod Books
-pub mod Passing

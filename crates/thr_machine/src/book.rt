@@ -1,30 +1,42 @@
 //! The book: the machine with the history of its events.
 
-ghost use Rattle.std.specs.Prelude.{◌≡◌, ◌≤◌, ◌<◌, ◌+◌, ◌↔◌, [], ◌∷◌, ◌++◌, IsTrue, IfOk, IsSome, IfSome, IfNone, OnOk, OnErr, None, Some, vec_len, vec_capacity, false};
+ghost use Rattle.std.specs.Prelude.{◌≡◌, ◌≤◌, ◌<◌, ◌↔◌, IsTrue, IfOk, IsSome, IfSome, IfNone, OnOk, OnErr, None, Some, is_some, false};
 ghost use Rattle.thr_values.specs.declared.event.Event.TheVariants as event;
-ghost use Rattle.thr_values.specs.declared.number.Tid.{Tid};
 ghost use Rattle.thr_parts.specs.Dispatch.{running};
 ghost use Rattle.thr_model.specs.Events.{made_by};
-ghost use Rattle.thr_model.specs.Histories.{stop_at, StopsWith, Legal};
+ghost use Rattle.thr_model.specs.Histories.{StopsWith, Legal};
+ghost use Rattle.thr_model.specs.States.{declared_values};
+ghost use Rattle.thr_parts.specs.Tables.{get, has};
 ghost use Rattle.thr_text.specs.Reading.{Formed};
 ghost use Rattle.thr_machine.specs.Built.{first_unbuilt};
 
-use crate::place::{body_of, next_slice, number_of};
+use crate::opening::{first_stack, first_values, limit_of, shared_names_fit};
+use crate::turn::{make_turn, next_slice};
+use crate::writing::{write, write_all};
 use sqlite_items::Items;
 use std::alloc::Global;
 use std::marker::Model;
+use thr_alone::SharedVariables;
+use thr_alone::laws::{
+    machines_open_with_one_thread, one_thread_is_dispatched, one_thread_stops,
+    turns_leave_one_thread,
+};
+use thr_frames::stack::Stack;
+use thr_lines::lines::Lines;
+use thr_stack::notes::Notes;
 use thr_syntax::journal::Journal;
 use thr_syntax::tree::Script;
 use thr_values::event::Stop;
 use thr_values::history::{Entry, What, Who};
-use thr_values::number::{NoMemory, Tid};
+use thr_values::number::{NameId, NoMemory, Tid};
 
 /// Where the one thread is.
 #[derive(Clone, Copy, Debug, PartialEq, Eq)]
 pub enum Phase {
     Ready,
     OnProcessor,
-    Over,
+    /// It has ended with this value.
+    Over(i64),
 }
 
 /// A machine that is opened on a script, with its history. Contracts see its script, its workers, its state, the lines of
@@ -32,12 +44,15 @@ pub enum Phase {
 /// (docs/machine.md, "Histories").
 #[derive(Drop)]
 pub struct Book {
-    script: Script,
+    lines: Lines,
+    stack: Stack,
+    shared: SharedVariables,
+    notes: Notes,
     entries: Vec<Entry>,
-    place: usize,
     phase: Phase,
     slice: u8,
     turns: u64,
+    limit: u64,
     stopped: Option<Stop>,
 }
 
@@ -58,21 +73,14 @@ impl Model for Book {
     ghost invariant = { IsKept };
 }
 
-/// The limit on lines where the script sets none, which is so in each script that is built.
-const LIMIT: usize = 100000;
+/// How many lines an event writes at most.
+const MOST_LINES: usize = 136;
 
-/// Adds a line, for which there is room.
-fn add(entries: &mut Vec<Entry>, who: Who, what: What)
-    requires { vec_len entries.old < vec_capacity entries.old }
-    ensures items { entries.new.items ≡ entries.old.items ++ record { who = who; what = what } ∷ [] }
-    ensures len { vec_len entries.new ≡ vec_len entries.old + 1 }
-{
-    entries.push_reserved(Entry { who, what });
-}
+/// How many names a script has at most.
+const NAMES: usize = 1010;
 
 impl Book {
-    ghost use Rattle.thr_model.specs.States.{opening};
-    ghost use Rattle.thr_machine.specs.Books.{IsOpened, IsOpen, Makes, RoomOnly, IsReached, stop_of};
+    ghost use Rattle.thr_machine.specs.Books.{IsOpened, IsOpen, Makes, RoomOnly, IsReached, IsEndAlone, most_lines, stop_of};
 
     /// A machine of `workers` processors, opened on the script. So far there is one processor.
     pub fn new(alloc: Global, script: Script, workers: u32) -> Result<Book, NoMemory>
@@ -82,24 +90,32 @@ impl Book {
         ensures { IfOk result (λ b. IsOpened b script workers) }
     {
         let _ = workers;
+        machines_open_with_one_thread();
+        let shared = first_values(alloc, &script)?;
+        let limit = limit_of(script.items.as_slice());
+        let lines = Lines::build(alloc, script)?;
+        let stack = first_stack(alloc, &lines)?;
         Ok(Book {
-            script,
+            lines,
+            stack,
+            shared,
+            notes: Notes::new(alloc)?,
             entries: Vec::new(alloc),
-            place: 0,
             phase: Phase::Ready,
             slice: 8,
             turns: 0,
+            limit,
             stopped: None,
         })
     }
 
     /// Takes the memory for one event. Of the calls on a book it alone can find none.
     pub fn make_room(&mut self) -> Result<(), NoMemory>
-        ensures ok { OnOk result (1 ≤ self.new.room) }
+        ensures ok { OnOk result (most_lines ≤ self.new.room) }
         ensures same { RoomOnly self.old self.new }
         ensures err { OnErr result (self.new ≡ self.old) }
     {
-        match self.entries.reserve(1) {
+        match self.entries.reserve(MOST_LINES) {
             Ok(()) => Ok(()),
             Err(_) => Err(NoMemory),
         }
@@ -107,9 +123,9 @@ impl Book {
 
     /// Whether there is room for one event.
     pub fn room(&self) -> bool
-        ensures { IsTrue result ↔ (1 ≤ self.now.room) }
+        ensures { IsTrue result ↔ (most_lines ≤ self.now.room) }
     {
-        self.entries.capacity() > self.entries.len()
+        self.entries.capacity() - self.entries.len() >= MOST_LINES
     }
 
     /// The thread that processor `p` has.
@@ -130,9 +146,11 @@ impl Book {
         ensures none { IfNone result ((made_by self.old.script self.old.workers self.old.state (event.Dispatch p) ≡ None) × (self.new ≡ self.old)) }
         ensures taken { p < self.old.workers → running self.old.state.rows p ≡ None → IsSome result }
     {
+        one_thread_is_dispatched();
+        one_thread_stops();
         match self.phase {
             Phase::Ready if p == 0 => {
-                add(&mut self.entries, Who::Proc(p), What::Run(Tid(1)));
+                write(&mut self.entries, Who::Proc(p), What::Run(Tid(1)));
                 self.phase = Phase::OnProcessor;
                 self.slice = 8;
                 Some(Tid(1))
@@ -148,18 +166,22 @@ impl Book {
         ensures { Makes self.old self.new (event.Turn p) }
     {
         let _ = p;
-        let body = body_of(&self.script);
-        if self.place < body.len() {
-            let number = number_of(&body[self.place]);
-            add(&mut self.entries, Who::Thread(Tid(1)), What::Say(number));
-            self.place += 1;
-            self.slice = next_slice(self.slice);
-            self.turns += 1;
-            return;
-        }
-        add(&mut self.entries, Who::Thread(Tid(1)), What::End(0));
-        self.phase = Phase::Over;
+        turns_leave_one_thread();
+        let ended = make_turn(
+            &self.lines,
+            &mut self.stack,
+            &mut self.shared,
+            &mut self.notes,
+        );
+        write_all(&mut self.entries, self.notes.lines());
         self.turns += 1;
+        match ended {
+            None => self.slice = next_slice(self.slice),
+            Some(value) => {
+                write(&mut self.entries, Who::Thread(Tid(1)), What::End(value));
+                self.phase = Phase::Over(value);
+            }
+        }
     }
 
     /// The clock moves. The answer is false exactly where that isn't legal, which is so as long as no statement waits for a
@@ -170,6 +192,7 @@ impl Book {
         ensures same { self.new ≡ self.old }
     {
         let _ = &self.phase;
+        one_thread_is_dispatched();
         false
     }
 
@@ -177,11 +200,13 @@ impl Book {
     pub fn stop_test(&self) -> Option<Stop>
         ensures value { result ≡ stop_of self.now }
         ensures reached { IsReached self.now }
+        ensures alone { IfSome result IsEndAlone }
     {
+        one_thread_stops();
         match self.phase {
-            Phase::Over => Some(Stop::Finished),
+            Phase::Over(_) => Some(Stop::Finished),
             Phase::Ready | Phase::OnProcessor => {
-                if self.entries.len() >= LIMIT {
+                if self.entries.len() as u64 >= self.limit {
                     Some(Stop::Limit)
                 } else {
                     None
@@ -201,7 +226,8 @@ impl Book {
 
     /// Why the machine was stopped, where it was.
     pub fn stopped(&self) -> Option<Stop>
-        ensures { result ≡ self.now.stopped }
+        ensures value { result ≡ self.now.stopped }
+        ensures legal { IfSome result (λ why. Legal self.now.script self.now.workers self.now.entries why) }
     {
         self.stopped
     }
@@ -215,9 +241,23 @@ impl Book {
 
     /// How many of the events were turns.
     pub fn turns(&self) -> u64
-        ensures { result ≡ self.now.turns }
+        ensures value { result ≡ self.now.turns }
+        ensures reached { IsReached self.now }
     {
         self.turns
+    }
+
+    /// The value of a shared variable; None exactly where the script declares no shared variable of that name.
+    pub fn shared_value(&self, name: NameId) -> Option<i64>
+        ensures value { result ≡ get self.now.state.shared name.0 }
+        ensures declared { is_some result ≡ has (declared_values self.now.script.items) name.0 }
+    {
+        shared_names_fit();
+        let shared = &self.shared;
+        if name.0 as usize >= NAMES {
+            return None;
+        }
+        shared.get(name)
     }
 
     /// The run as a journal, whose history is legal.
@@ -230,7 +270,7 @@ impl Book {
         ensures legal { Legal result.script result.workers result.entries result.stop }
     {
         let Book {
-            script,
+            lines,
             entries,
             stopped,
             ..
@@ -238,7 +278,7 @@ impl Book {
         match stopped {
             Some(stop) => Journal {
                 workers: 1,
-                script,
+                script: lines.into_script(),
                 entries: Items::from_vec(entries),
                 stop,
             },

@@ -2,6 +2,7 @@
 #![tactic(auto)]
 
 pub mod book;
-pub mod laws;
-pub mod place;
+mod opening;
+mod turn;
 pub mod unbuilt;
+mod writing;

@@ -1,84 +1,121 @@
 //! Which scripts the machine runs so far (docs/machine.md, "What is built").
 
-ghost use Rattle.std.specs.Prelude.{◌≡◌, ℕ, List, ◌+◌, ◌<◌, ◌^◌, length, map, codes};
+ghost use Rattle.std.specs.Prelude.{◌≡◌, map, Ok};
 ghost use Rattle.std.specs.Option.{option_map};
-ghost use Rattle.std.specs.Str.{bytes_eq};
-ghost use Rattle.thr_syntax.specs.Spelling.{name_at};
-ghost use Rattle.thr_syntax.specs.Lines.{joined, body_lines, head_lines, routine_lines, item_lines};
+ghost use Rattle.thr_syntax.specs.Lines.{joined, stmt_lines, body_lines, routine_lines, item_lines};
 ghost use Rattle.thr_text.specs.Reading.{Formed};
+ghost use Rattle.thr_limits.specs.Walks.{clauses_lines};
 ghost use Rattle.thr_machine.specs.Built.{first_unbuilt};
-ghost use Rattle.thr_machine.specs.Passing.{passed, says_number};
+ghost use Rattle.thr_machine.specs.Passing.{past_line, at_unbuilt, passed, local_lines};
 
-use thr_syntax::expr::Expr;
-use thr_syntax::tree::{Item, Routine, Script, Stmt};
+use thr_syntax::tree::{Clause, Item, Routine, Script, Stmt};
 use thr_values::name::Name;
-use thr_values::number::{Line, NameId};
+use thr_values::number::Line;
 
-/// Whether this is the name `main`.
-fn is_main(names: &[Name], name: NameId) -> bool
-    ensures { result ≡ bytes_eq (name_at names.now name.0) (codes "main") }
+/// The number after one more line, which is run, or the first line that isn't run. Numbers are counted as far as the type goes.
+fn pass_line(walk: Result<u32, Line>) -> Result<u32, Line>
+    ensures { result ≡ past_line walk }
 {
-    match names.get(usize::from(name.0)) {
-        Some(name) => name.as_slice() == b"main".as_slice(),
-        None => false,
+    match walk {
+        Ok(at) => Ok(at.saturating_add(1)),
+        Err(line) => Err(line),
     }
 }
 
-fn says_number(stmt: &Stmt) -> bool
-    ensures { result ≡ says_number stmt.now }
+/// The first line that isn't run, where the next one isn't.
+fn stop_walk(walk: Result<u32, Line>) -> Result<u32, Line>
+    ensures { result ≡ at_unbuilt walk }
 {
-    matches!(stmt, Stmt::Say(Expr::Num(_)))
+    match walk {
+        Ok(at) => Err(Line(at)),
+        Err(line) => Err(line),
+    }
 }
 
-/// The number of the line after a body whose first line is at `from`, or the first line in it that isn't run.
-fn pass_body(from: u32, body: &[Stmt]) -> Result<u32, Line>
-    requires { from + length (body_lines body.now) < 2 ^ 32 }
-    ensures { (names : List (List ℕ)) → result ≡ passed names from (body_lines body.now) }
+/// The number after a body, or the first line that isn't run.
+#[cycle(statements)]
+fn pass_body(walk: Result<u32, Line>, body: &[Stmt]) -> Result<u32, Line>
+    ensures { result ≡ passed walk (body_lines body.now) }
 {
-    let mut at = from;
+    let mut walk = walk;
     for stmt in body {
-        if !says_number(stmt) {
-            return Err(Line(at));
-        }
-        at += 1;
+        walk = pass_stmt(walk, stmt);
     }
-    Ok(at)
+    walk
 }
 
-/// The same of a routine's line and those of its further locals.
-fn pass_head(names: &[Name], at: u32, name: NameId, locals: &[Name]) -> Result<u32, Line>
-    requires { at + length (head_lines name locals.now) < 2 ^ 32 }
-    ensures { result ≡ passed names.now at (head_lines name locals.now) }
+/// The same of the clauses of a try.
+#[cycle(statements)]
+fn pass_clauses(walk: Result<u32, Line>, clauses: &[Clause]) -> Result<u32, Line>
+    ensures { result ≡ passed walk (clauses_lines clauses.now) }
 {
-    if locals.is_empty() {
-        return Ok(at);
+    let mut walk = walk;
+    for clause in clauses {
+        walk = pass_body(pass_line(walk), clause.body.as_slice());
     }
-    if !is_main(names, name) {
-        return Err(Line(at));
+    walk
+}
+
+/// The same of a statement. Of all statements only a call of the thread service isn't run.
+#[cycle(statements)]
+#[tactic(auto, using(crate::proofs::Passes::statement_laws))]
+fn pass_stmt(walk: Result<u32, Line>, stmt: &Stmt) -> Result<u32, Line>
+    ensures { result ≡ passed walk (stmt_lines stmt.now) }
+{
+    match stmt {
+        Stmt::If(_, body, other) => {
+            let walk = pass_body(pass_line(walk), body.as_slice());
+            match other {
+                None => pass_line(walk),
+                Some(other) => pass_line(pass_body(pass_line(walk), other.as_slice())),
+            }
+        }
+        Stmt::While(_, body) => pass_line(pass_body(pass_line(walk), body.as_slice())),
+        Stmt::TryCatch(body, clauses) => {
+            let walk = pass_body(pass_line(walk), body.as_slice());
+            pass_line(pass_clauses(walk, clauses.as_slice()))
+        }
+        Stmt::TryFinally(body, last) => {
+            let walk = pass_body(pass_line(walk), body.as_slice());
+            pass_line(pass_body(pass_line(walk), last.as_slice()))
+        }
+        Stmt::Set(_, _)
+        | Stmt::Say(_)
+        | Stmt::Raise(_)
+        | Stmt::Reraise
+        | Stmt::Call(_, _, _)
+        | Stmt::Return(_)
+        | Stmt::Exit(_) => pass_line(walk),
+        Stmt::Dce(_) => stop_walk(walk),
     }
-    if locals.len() > 1 {
-        return Err(Line(at + 1));
+}
+
+/// The same of the lines above a routine's body, one for each local.
+fn pass_locals(walk: Result<u32, Line>, locals: &[Name]) -> Result<u32, Line>
+    ensures { result ≡ passed walk (local_lines locals.now) }
+{
+    let mut walk = walk;
+    for _local in locals {
+        walk = pass_line(walk);
     }
-    Ok(at + 1)
+    walk
 }
 
 /// The same of a routine.
-fn pass_routine(names: &[Name], at: u32, routine: &Routine) -> Result<u32, Line>
-    requires { at + length (routine_lines routine.now) < 2 ^ 32 }
-    ensures { result ≡ passed names.now at (routine_lines routine.now) }
+#[tactic(auto, using(crate::proofs::Passes::routine_passed))]
+fn pass_routine(walk: Result<u32, Line>, routine: &Routine) -> Result<u32, Line>
+    ensures { result ≡ passed walk (routine_lines routine.now) }
 {
-    let at = pass_head(names, at, routine.name, routine.locals.as_slice())?;
-    let at = pass_body(at, routine.body.as_slice())?;
-    Ok(at + 1)
+    let walk = pass_locals(walk, routine.locals.as_slice());
+    pass_line(pass_body(walk, routine.body.as_slice()))
 }
 
 /// The same of a declaration.
-fn pass_item(names: &[Name], at: u32, item: &Item) -> Result<u32, Line>
-    requires { at + length (item_lines item.now) < 2 ^ 32 }
-    ensures { result ≡ passed names.now at (item_lines item.now) }
+fn pass_item(walk: Result<u32, Line>, item: &Item) -> Result<u32, Line>
+    ensures { result ≡ passed walk (item_lines item.now) }
 {
     match item {
-        Item::Routine(routine) => pass_routine(names, at, routine),
+        Item::Routine(routine) => pass_routine(walk, routine),
         Item::Interface(_)
         | Item::Limit(_)
         | Item::Shared(_, _)
@@ -90,27 +127,26 @@ fn pass_item(names: &[Name], at: u32, item: &Item) -> Result<u32, Line>
         | Item::Attr(_)
         | Item::Key(_)
         | Item::Once(_)
-        | Item::Pipe(_, _) => Err(Line(at)),
+        | Item::Pipe(_, _) => pass_line(walk),
     }
 }
 
 /// The same of all declarations, which stand from line 2 on.
-fn pass_items(names: &[Name], items: &[Item]) -> Result<u32, Line>
-    requires { 2 + length (joined (map item_lines items.now)) < 2 ^ 32 }
-    ensures { result ≡ passed names.now 2 (joined (map item_lines items.now)) }
+fn pass_items(items: &[Item]) -> Result<u32, Line>
+    ensures { result ≡ passed (Ok 2) (joined (map item_lines items.now)) }
 {
-    let mut at: u32 = 2;
+    let mut walk = Ok(2);
     for item in items {
-        at = pass_item(names, at, item)?;
+        walk = pass_item(walk, item);
     }
-    Ok(at)
+    walk
 }
 
-/// The first line of the script that the machine doesn't run, by its number in the canonical text. What stands below it isn't
-/// looked at. `Book::new` takes the scripts that have none.
+/// The first line of the script that the machine doesn't run, by its number in the canonical text. `Book::new` takes the
+/// scripts that have none. Nothing is allocated, and each part of the tree is looked at once.
 pub fn first_unbuilt(script: &Script) -> Option<Line>
     requires { Formed script.now }
     ensures { option_map (λ l. l.0) result ≡ first_unbuilt script.now }
 {
-    pass_items(script.names.as_slice(), script.items.as_slice()).err()
+    pass_items(script.items.as_slice()).err()
 }

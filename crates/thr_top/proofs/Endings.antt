@@ -11,16 +11,13 @@ use Rattle.thr_values.specs.declared.history.Entry.{Entry}
 use Rattle.thr_syntax.specs.declared.tree.Script.{Script}
 use Rattle.thr_wire.specs.Bytes.{TookMoreThan, TookAll}
 use Rattle.thr_text.specs.Reading.{Formed}
-use Rattle.thr_machine.specs.Built.{first_unbuilt}
 use Rattle.thr_model.specs.States.{State}
-use Rattle.thr_model.specs.Histories.{History, Legal, limit_of, stop_with, stop_at}
+use Rattle.thr_model.specs.Histories.{Legal, limit_of, stop_with, stop_at}
 use Rattle.thr_laws.specs.Routed.{Routed}
-use Rattle.thr_machine.proofs.BuiltScripts.{formed_scripts_say_numbers, formed_scripts_are_few}
-use Rattle.thr_machine.proofs.Short.{short-finishes}
 use Rattle.thr_machine.specs.Views.{BookView}
-use Rattle.thr_machine.specs.Books.{IsReached, Makes, RoomOnly, stop_of}
-use Rattle.thr_top.specs.Driving.{IsFew, IsGoing, IsAtEnd, room_of}
-use Rattle.thr_top.specs.Answers.{Refuses, RunAnswers, CheckAnswers, Ends, answered, unread, no_memory, not_run, not_checked, whole, max_script}
+use Rattle.thr_machine.specs.Books.{Makes, RoomOnly, IsEndAlone, stop_of}
+use Rattle.thr_top.specs.Driving.{IsGoing, IsAtEnd, room_of}
+use Rattle.thr_top.specs.Answers.{IsRunStatus, Refuses, RunAnswers, CheckAnswers, Ends, answered, unread, no_memory, not_run, not_checked, whole, max_script}
 
 gains-nothing : (o : Option (List ℕ)) → Appends o o []
 gains-nothing None = tt
@@ -63,17 +60,14 @@ told-long None now P t p = tt
 told-long (Some before) None P t p = absurd t
 told-long (Some before) (Some now) P t p = p before (omega arith)
 
--- ---- books of scripts that say few numbers
+-- ---- a book that stops
 
-pub few-finishes : (b : BookView) (why : Stop) → IsFew b.script → IsReached b → Some why ≡ stop_of b → why ≡ stops.Finished
-few-finishes b why few r e =
-    short-finishes few.parameter few.numbers b.workers b.state r.events b.entries b.turns why few.few
-    (subst (λ (s : Script). History s b.workers b.state r.events b.entries b.turns) few.same r.history)
-    (subst (λ (s : Script). stop_at s b.state (length b.entries) ≡ Some why) few.same (sym e))
+pub at-end : (b after : BookView) (why : Stop) → IsEndAlone why → after ≡ record b { stopped = Some why } → IsAtEnd after
+at-end b after why alone is = record { why = why; stopped = ap (λ (v : BookView). v.stopped) is; alone = alone }
 
-pub at-end : (b after : BookView) (why : Stop) → IsFew b.script → IsReached b → Some why ≡ stop_of b → after ≡ record b { stopped = Some why } → IsAtEnd after
-at-end b after why few r e is =
-    subst IsAtEnd (sym is) (record { reached = record { events = r.events; history = r.history }; stopped = ap (λ (s : Stop). Some s) (few-finishes b why few r e) })
+-- the stop of the journal is the one with which the book stopped
+pub same-stop : (b : BookView) (stop : Stop) → IsAtEnd b → b.stopped ≡ Some stop → IsEndAlone stop
+same-stop b stop end is = subst (λ (o : Option Stop). IfSome o IsEndAlone) (sym end.stopped ∙ is) end.alone
 
 -- ---- one event more
 
@@ -94,25 +88,21 @@ goes-further old mid new e going open_ same m =
     let lines : new.entries ≡ old.entries ++ m.made.lines = ap (λ (b : BookView). b.entries) m.after ∙ ap (λ (b : BookView). b.entries ++ m.made.lines) same in
     let less : length old.entries < limit_of old.script = below-limit old.script old.state (length old.entries) (sym open_) in (
       record {
-        few = subst IsFew (sym script) going.few;
         workers = ap (λ (b : BookView). b.workers) m.after ∙ ap (λ (b : BookView). b.workers) same ∙ going.workers;
         going = ap (λ (b : BookView). b.stopped) m.after ∙ ap (λ (b : BookView). b.stopped) same ∙ going.going;
       },
       omega (arith, less, ap limit_of script, ap length lines, length-append old.entries m.made.lines, m.some),
     )
 
-pub few-of : (s : Script) → Formed s → first_unbuilt s ≡ None → IsFew s
-few-of s formed none =
-    let b = formed_scripts_say_numbers s formed none in
-    record { parameter = b.parameter; numbers = b.numbers; few = formed_scripts_are_few s b.parameter b.numbers formed b.same; same = b.same }
-
 -- A legal history of a script is routed, where the law says so of each script that keeps the rules.
 pub routed-of : ((s : Script) (n : ℕ) (es : List Entry) (stop : Stop) → Formed s → Legal s n es stop → Routed s es)
     → (s told : Script) (n : ℕ) (es : List Entry) (stop : Stop) → Formed s → told ≡ s → Legal told n es stop → Routed s es
 routed-of law s told n es stop formed same legal = law s n es stop formed (subst (λ (x : Script). Legal x n es stop) same legal)
 
-pub not-memory : (stop : Stop) → stop ≡ stops.Finished → stop ≡ stops.Memory → ⊥
-not-memory stop e f = absurd (cc)
+-- a run's status, where the sink's fault is ruled out
+pub runs-well : (status : ℕ) → IsRunStatus status ⊎ (status ≡ 4) → (status ≡ 4 → ⊥) → IsRunStatus status
+runs-well status (inl e) never = e
+runs-well status (inr e) never = absurd (never e)
 
 -- one of three statuses, where the third is ruled out
 pub finishes-well : (status : ℕ) → (status ≡ 0) ⊎ ((status ≡ 5) ⊎ (status ≡ 4)) → (status ≡ 4 → ⊥) → (status ≡ 0) ⊎ (status ≡ 5)

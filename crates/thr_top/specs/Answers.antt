@@ -39,6 +39,10 @@ status_of (stops.Deadlock n t) = 6
 status_of stops.Limit = 7
 status_of stops.Memory = 5
 
+-- A run of one thread ends with one of these: its thread ended, the lines came to the limit, or memory was wanting.
+abbrev pub IsRunStatus : ℕ → Type 0
+IsRunStatus status = (status ≡ 0) ⊎ ((status ≡ 7) ⊎ (status ≡ 5))
+
 -- A text of one line.
 abbrev pub one_line : List ℕ → List ℕ
 one_line text = text ++ 10 ∷ []

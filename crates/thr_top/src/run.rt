@@ -1,8 +1,8 @@
 //! Runs a script to its end.
 
-ghost use Rattle.std.specs.Prelude.{◌≡◌, ◌<◌, IfOk, OnOk, IsSome, None, Some, true, false, length};
-ghost use Rattle.thr_values.specs.declared.event.Stop.TheVariants as stops;
+ghost use Rattle.std.specs.Prelude.{◌≡◌, ◌<◌, IfOk, OnOk, None, true, false};
 ghost use Rattle.thr_text.specs.Reading.{Formed};
+ghost use Rattle.thr_machine.specs.Books.{IsEndAlone};
 ghost use Rattle.thr_machine.specs.Built.{first_unbuilt};
 ghost use Rattle.thr_laws.specs.Routed.{Routed};
 ghost use Rattle.thr_model.specs.Histories.{Legal};
@@ -45,13 +45,13 @@ fn drive(book: &mut Book) -> Result<(), NoMemory>
     Ok(())
 }
 
-/// The journal of a legal history of a script that the machine runs. Its thread ends.
+/// The journal of a legal history of a script that the machine runs. Its thread ends, or the lines come to the limit.
 pub fn history_of(alloc: Global, script: Script) -> Result<Journal, NoMemory>
     requires formed { Formed script }
     requires built { first_unbuilt script ≡ None }
     ensures legal { IfOk result (λ j. Legal script 1 j.entries j.stop) }
     ensures routed { IfOk result (λ j. Routed script j.entries) }
-    ensures stop { IfOk result (λ j. j.stop ≡ stops.Finished) }
+    ensures stop { IfOk result (λ j. IsEndAlone j.stop) }
     ensures same { IfOk result (λ j. (j.script ≡ script) × (j.workers ≡ 1)) }
 {
     let mut book = Book::new(alloc, script, 1)?;

@@ -38,7 +38,7 @@ const ALL_SORTS_PLAIN: &[u8] =
     b"dcethr 1\ninterface status\nlimit 10\nshared x 0\nexception e_1\nstatus s 5\nmutex m\nmutexattr b\ncond c\nattr t\nkey k\nonce o\npipe p 1\nroutine w a\nlocal v\nset v + a * -2 not x\nif exc_matches e_1 s\nelse\nend\ntry\nraise e_1\ncatch s\nset v exc_get_status this\nreraise\ncatch_all\nendtry\ntry\nwhile < v 3\ncall w err v\nend\nfinally\npthread_mutex_init m default\npthread_mutex_init m b\nendtry\nreturn self\nend\nroutine main a\ncall w 1\npthread_create x t w a\npthread_keycreate k none\npthread_setcancel CANCEL_OFF x\npthread_setscheduler a SCHED_RR 12 x\npthread_exit 0\nend\n";
 
 /// The words, parted by spaces, the input, and the status and the text that they give.
-const CASES: [(&str, &[u8], u8, &[u8]); 57] = [
+const CASES: [(&str, &[u8], u8, &[u8]); 59] = [
     ("run 1", SEVEN, 0, SEVEN_JOURNAL),
     ("run 1", MANY, 0, MANY_JOURNAL),
     ("run 1", NONE_SAID, 0, NONE_SAID_JOURNAL),
@@ -128,39 +128,52 @@ const CASES: [(&str, &[u8], u8, &[u8]); 57] = [
     // a fault of the text comes before a line that is not built
     (
         "run 1",
-        b"dcethr 1\nmutex m\nroutine main a\nraise a\nend\n",
+        b"dcethr 1\nroutine main a\npthread_yield\nraise a\nend\n",
         2,
         b"refused F17 line 4\n",
     ),
     (
         "run 1",
-        b"\ndcethr 1\n\nmutex m\nroutine main a\nend\n",
+        b"\ndcethr 1\n\nmutex m\nroutine main a\nend\nroutine w a\npthread_mutex_lock m\npthread_yield\nend\n",
         2,
-        b"refused not built line 2\n",
+        b"refused not built line 6\n",
     ),
     (
         "run 1",
-        b"dcethr 1\nroutine main a\nlocal t\nend\n",
+        b"dcethr 1\nroutine main a\nif a\ntry\nset a 1\ncatch_all\npthread_yield\nendtry\nend\nend\n",
         2,
-        b"refused not built line 3\n",
+        b"refused not built line 7\n",
+    ),
+    // one thread: unwindings, routines, shared variables, numbers, and the limit
+    (
+        "run 1",
+        b"dcethr 1\nstatus a 5\nstatus b 5\nroutine inner x\ntry\nraise a\nfinally\nsay 1\nendtry\nend\nroutine main x\ntry\ntry\ncall inner 0\nfinally\nsay 2\nendtry\ncatch b\nsay exc_get_status this\nendtry\nend\n",
+        0,
+        b"dcethr journal 1\nworkers 1\nscript 21\ndcethr 1\nstatus a 5\nstatus b 5\nroutine inner x\ntry\nraise a\nfinally\nsay 1\nendtry\nend\nroutine main x\ntry\ntry\ncall inner 0\nfinally\nsay 2\nendtry\ncatch b\nsay exc_get_status this\nendtry\nend\nhistory\n1 p0 run t1\n2 t1 try 1 12\n3 t1 try 2 13\n4 t1 try 3 5\n5 t1 raise 1 status 5\n6 t1 finally 3 1\n7 t1 say 1\n8 t1 endfin 3\n9 t1 finally 2 1\n10 t1 say 2\n11 t1 endfin 2\n12 t1 catch 1 1 18\n13 t1 say 5\n14 t1 endcatch 1\n15 t1 end 0\nstop finished\n",
     ),
     (
         "run 1",
-        b"dcethr 1\nroutine main a\nsay 1\nsay a\nend\n",
-        2,
-        b"refused not built line 4\n",
+        b"dcethr 1\nexception p\nexception q\nroutine main a\ntry\ntry\nraise p\nfinally\nraise q\nendtry\ncatch q\nsay 1\nendtry\nend\n",
+        0,
+        b"dcethr journal 1\nworkers 1\nscript 14\ndcethr 1\nexception p\nexception q\nroutine main a\ntry\ntry\nraise p\nfinally\nraise q\nendtry\ncatch q\nsay 1\nendtry\nend\nhistory\n1 p0 run t1\n2 t1 try 1 5\n3 t1 try 2 6\n4 t1 raise 1 p\n5 t1 finally 2 1\n6 t1 raise 2 q\n7 t1 catch 1 2 11\n8 t1 say 1\n9 t1 endcatch 1\n10 t1 end 0\nstop finished\n",
     ),
     (
         "run 1",
-        b"dcethr 1\nroutine main a\nwhile 0\nsay 1\nend\nend\n",
-        2,
-        b"refused not built line 3\n",
+        b"dcethr 1\nlimit 3\nroutine main a\nwhile 1\nend\nend\n",
+        7,
+        b"dcethr journal 1\nworkers 1\nscript 6\ndcethr 1\nlimit 3\nroutine main a\nwhile 1\nend\nend\nhistory\n1 p0 run t1\n2 t1 pause\n3 t1 pause\nstop limit\n",
     ),
     (
         "run 1",
-        b"dcethr 1\nroutine main a\nend\nroutine w a\nend\n",
-        2,
-        b"refused not built line 4\n",
+        b"dcethr 1\nshared x 2\nroutine main a\nset x 5\nsay x\nend\n",
+        0,
+        b"dcethr journal 1\nworkers 1\nscript 6\ndcethr 1\nshared x 2\nroutine main a\nset x 5\nsay x\nend\nhistory\n1 p0 run t1\n2 t1 set 4 5\n3 t1 say 5\n4 t1 end 0\nstop finished\n",
+    ),
+    (
+        "run 1",
+        b"dcethr 1\nroutine main a\nsay + 9223372036854775807 1\nend\n",
+        0,
+        b"dcethr journal 1\nworkers 1\nscript 4\ndcethr 1\nroutine main a\nsay + 9223372036854775807 1\nend\nhistory\n1 p0 run t1\n2 t1 raise 1 intovf_e\n3 t1 bottom 1 -2\n4 t1 end -2\nstop finished\n",
     ),
     // checking
     ("check", SEVEN, 0, SEVEN),

@@ -4,8 +4,10 @@ ghost use Rattle.std.specs.Prelude.{◌≡◌, ◌≢◌, ◌≤◌, ◌+◌, �
 ghost use Rattle.thr_wire.specs.Bytes.{TookAtMost, TookMoreThan};
 ghost use Rattle.thr_wire.specs.Causes.{Rose};
 ghost use Rattle.thr_text.specs.Reading.{Formed, Reads};
+ghost use Rattle.thr_values.specs.declared.event.Stop.TheVariants as stops;
+ghost use Rattle.thr_machine.specs.Books.{IsEndAlone};
 ghost use Rattle.thr_machine.specs.Built.{first_unbuilt};
-ghost use Rattle.thr_top.specs.Answers.{IsRunOne, IsCheck, IsCommand, IsScript, IsRun, RunAnswers, CheckAnswers, Ends, Writes, max_script, usage};
+ghost use Rattle.thr_top.specs.Answers.{status_of, IsRunOne, IsCheck, IsCommand, IsScript, IsRun, IsRunStatus, RunAnswers, CheckAnswers, Ends, Writes, max_script, usage};
 
 use crate::answer::{give, unbuilt};
 use crate::check::{MAX_SCRIPT, plain_top, refuse};
@@ -17,17 +19,32 @@ use thr_journal::print;
 use thr_machine::unbuilt::first_unbuilt;
 use thr_syntax::tree::Script;
 use thr_text::fault::ParseFault;
+use thr_values::event::Stop;
 use thr_values::number::Line;
 use thr_wire::fault::WireFault;
 use thr_wire::whole::read_all;
 use thr_wire::wire::{Sink, Source};
+
+/// The status that goes with a stop.
+fn status_of(stop: Stop) -> u8
+    requires { IsEndAlone stop }
+    ensures status { result ≡ status_of stop }
+    ensures known { (result ≡ 0) ⊎ (result ≡ 7) }
+    ensures memory { stop ≢ stops.Memory }
+{
+    match stop {
+        Stop::Finished => 0,
+        Stop::Limit => 7,
+        Stop::Deadlock(_, _) | Stop::Memory => unreachable!(),
+    }
+}
 
 /// Runs a script and writes its journal.
 fn run_script<K: Sink>(alloc: Global, script: Script, sink: &mut K) -> Status
     requires formed { Formed script }
     requires built { first_unbuilt script ≡ None }
     ensures ends { (input : List ℕ) → length input ≤ max_script → Reads input script → Ends (RunAnswers 1 input) (K.held sink.old) (K.held sink.new) result.0 }
-    ensures status { (result.0 ≡ 0) ⊎ ((result.0 ≡ 5) ⊎ (result.0 ≡ 4)) }
+    ensures status { IsRunStatus result.0 ⊎ (result.0 ≡ 4) }
     ensures write { result.0 ≡ 4 → Rose (K.faults sink.old) (K.faults sink.new) }
     ensures quiet { result.0 ≢ 4 → K.faults sink.new ≡ K.faults sink.old }
 {
@@ -37,7 +54,7 @@ fn run_script<K: Sink>(alloc: Global, script: Script, sink: &mut K) -> Status
     let Ok(text) = print(alloc, &journal) else {
         return Status(5);
     };
-    give(sink, 0, text.as_slice())
+    give(sink, status_of(journal.stop), text.as_slice())
 }
 
 /// Writes that the machine doesn't run this line yet.
@@ -57,10 +74,10 @@ fn refuse_unbuilt<K: Sink>(alloc: Global, line: Line, sink: &mut K) -> Status
 fn run_built<K: Sink>(alloc: Global, script: Script, sink: &mut K) -> Status
     requires { Formed script }
     ensures ends { (input : List ℕ) → length input ≤ max_script → Reads input script → Ends (RunAnswers 1 input) (K.held sink.old) (K.held sink.new) result.0 }
-    ensures complete { first_unbuilt script ≡ None → (result.0 ≡ 0) ⊎ ((result.0 ≡ 5) ⊎ (result.0 ≡ 4)) }
+    ensures complete { first_unbuilt script ≡ None → IsRunStatus result.0 ⊎ (result.0 ≡ 4) }
     ensures write { result.0 ≡ 4 → Rose (K.faults sink.old) (K.faults sink.new) }
     ensures quiet { result.0 ≢ 4 → K.faults sink.new ≡ K.faults sink.old }
-    ensures known { (result.0 ≤ 5) × (result.0 ≢ 1) × (result.0 ≢ 3) }
+    ensures known { (result.0 ≤ 7) × (result.0 ≢ 1) × (result.0 ≢ 3) × (result.0 ≢ 6) }
 {
     match first_unbuilt(&script) {
         Some(line) => refuse_unbuilt(alloc, line, sink),
@@ -72,10 +89,10 @@ fn run_built<K: Sink>(alloc: Global, script: Script, sink: &mut K) -> Status
 fn run_input<K: Sink>(alloc: Global, input: &[u8], sink: &mut K) -> Status
     requires { length input.now ≤ max_script }
     ensures ends { Ends (RunAnswers 1 input.now) (K.held sink.old) (K.held sink.new) result.0 }
-    ensures complete { IsRun input.now → (result.0 ≡ 0) ⊎ ((result.0 ≡ 5) ⊎ (result.0 ≡ 4)) }
+    ensures complete { IsRun input.now → IsRunStatus result.0 ⊎ (result.0 ≡ 4) }
     ensures write { result.0 ≡ 4 → Rose (K.faults sink.old) (K.faults sink.new) }
     ensures quiet { result.0 ≢ 4 → K.faults sink.new ≡ K.faults sink.old }
-    ensures known { (result.0 ≤ 5) × (result.0 ≢ 1) × (result.0 ≢ 3) }
+    ensures known { (result.0 ≤ 7) × (result.0 ≢ 1) × (result.0 ≢ 3) × (result.0 ≢ 6) }
 {
     match parse(alloc, input) {
         Ok(script) => run_built(alloc, script, sink),
@@ -91,12 +108,12 @@ fn run_one<S: Source, K: Sink>(alloc: Global, source: &mut S, sink: &mut K) -> S
     ensures run { IfSome (S.left source.old) (λ input. Ends (RunAnswers 1 input) (K.held sink.old) (K.held sink.new) result.0) }
     ensures complete { IfSome (S.left source.old) (λ input.
         IsRun input → ¬ (Rose (S.faults source.old) (S.faults source.new)) → ¬ (Rose (K.faults sink.old) (K.faults sink.new))
-        → (result.0 ≡ 0) ⊎ (result.0 ≡ 5)) }
+        → IsRunStatus result.0) }
     ensures read { result.0 ≡ 3 → Rose (S.faults source.old) (S.faults source.new) }
     ensures write { result.0 ≡ 4 → Rose (K.faults sink.old) (K.faults sink.new) }
     ensures quiet_source { result.0 ≢ 3 → S.faults source.new ≡ S.faults source.old }
     ensures quiet_sink { result.0 ≢ 4 → K.faults sink.new ≡ K.faults sink.old }
-    ensures known { (result.0 ≤ 5) × (result.0 ≢ 1) }
+    ensures known { (result.0 ≤ 7) × (result.0 ≢ 1) × (result.0 ≢ 6) }
 {
     match read_all(alloc, source, MAX_SCRIPT) {
         Ok(input) => run_input(alloc, input.as_slice(), sink),
@@ -130,10 +147,10 @@ pub fn top<S: Source, K: Sink>(
     ensures check { IsCheck words.now → IfSome (S.left source.old) (λ input. Ends (CheckAnswers input) (K.held sink.old) (K.held sink.new) result.0) }
 
     // Where no device has a fault, the text of a script gives 0, or 5 for want of memory: for `run 1` of one that the
-    // machine runs.
+    // machine runs, or 7 where its lines come to the limit.
     ensures run_complete { IsRunOne words.now → IfSome (S.left source.old) (λ input.
         IsRun input → ¬ (Rose (S.faults source.old) (S.faults source.new)) → ¬ (Rose (K.faults sink.old) (K.faults sink.new))
-        → (result.0 ≡ 0) ⊎ (result.0 ≡ 5)) }
+        → IsRunStatus result.0) }
     ensures check_complete { IsCheck words.now → IfSome (S.left source.old) (λ input.
         IsScript input → ¬ (Rose (S.faults source.old) (S.faults source.new)) → ¬ (Rose (K.faults sink.old) (K.faults sink.new))
         → (result.0 ≡ 0) ⊎ (result.0 ≡ 5)) }
@@ -143,7 +160,7 @@ pub fn top<S: Source, K: Sink>(
     ensures write { result.0 ≡ 4 → Rose (K.faults sink.old) (K.faults sink.new) }
     ensures quiet_source { result.0 ≢ 3 → S.faults source.new ≡ S.faults source.old }
     ensures quiet_sink { result.0 ≢ 4 → K.faults sink.new ≡ K.faults sink.old }
-    ensures known { result.0 ≤ 5 }
+    ensures known { (result.0 ≤ 7) × (result.0 ≢ 6) }
 {
     if needs_workers(words) {
         run_one(alloc, source, sink)

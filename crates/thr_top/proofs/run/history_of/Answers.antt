@@ -1,14 +1,12 @@
-use Rattle.std.proofs.Common.{sym, subst, ◌∙◌}
-use Rattle.thr_top.specs.Driving.{IsFew}
-use Rattle.thr_top.proofs.Endings.{few-of, routed-of}
+use Rattle.std.proofs.Common.{◌∙◌}
+use Rattle.thr_top.proofs.Endings.{routed-of, same-stop}
 use Rattle.thr_top.proofs.run.history_of.Goals as goal
 
 pub drive-requires : goal.drive-requires
-drive-requires c = record {
-  few = subst IsFew (sym c.in_ok-book.ensures.script) (few-of c.args.script c.requires.formed c.requires.built);
-  workers = c.in_ok-book.ensures.workers;
-  going = c.in_ok-book.ensures.stopped;
-}
+drive-requires c = record { workers = c.in_ok-book.ensures.workers; going = c.in_ok-book.ensures.stopped }
+
+pub returns-clause-stop : goal.returns-clause-stop
+returns-clause-stop c = same-stop c.drive.new.book c.into_journal.result.stop c.in_ok-drive.ensures.over c.into_journal.ensures.stop
 
 pub returns-clause-routed : goal.returns-clause-routed
 returns-clause-routed c =

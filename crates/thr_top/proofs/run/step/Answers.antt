@@ -7,7 +7,7 @@ use Rattle.thr_top.proofs.Endings.{at-end, goes-further}
 use Rattle.thr_top.proofs.run.step.Goals as goal
 
 pub returns-in-Some-clause-over : goal.returns-in-Some-clause-over
-returns-in-Some-clause-over c = λ _. at-end c.args.book.now c.stop.new.self c.in-Some.why c.requires.few c.stop_test.ensures.reached c.in-Some.ensures.value c.stop.ensures
+returns-in-Some-clause-over c = λ _. at-end c.args.book.now c.stop.new.self c.in-Some.why c.in-Some.ensures.alone c.stop.ensures
 
 pub returns-then-is_some-clause-more : goal.returns-then-is_some-clause-more
 returns-then-is_some-clause-more c = λ _. goes-further c.args.book.now c.make_room.new.self c.turn.new.self (event.Turn 0) c.requires c.in_default.ensures.value c.in_ok-make_room.ensures.same c.turn.ensures

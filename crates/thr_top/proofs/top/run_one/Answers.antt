@@ -1,6 +1,6 @@
 use Rattle.std.proofs.Common.{ap, refl, Err, arith}
 use Rattle.thr_top.specs.Answers.{RunAnswers, Ends, answered, not_run, too_long}
-use Rattle.thr_top.proofs.Endings.{ends-no-memory, no-memory-run, told-all, told-any, told-long, finishes-well}
+use Rattle.thr_top.proofs.Endings.{ends-no-memory, no-memory-run, told-all, told-any, told-long, runs-well}
 use Rattle.thr_top.proofs.top.run_one.Goals as goal
 
 pub returns-in-Ok-clause-run : goal.returns-in-Ok-clause-run
@@ -9,7 +9,7 @@ returns-in-Ok-clause-run g c =
 
 pub returns-in-Ok-clause-complete : goal.returns-in-Ok-clause-complete
 returns-in-Ok-clause-complete g c =
-    told-all _ _ _ _ c.in-Ok.ensures.whole (λ script read write. finishes-well _ (rw c.as_slice.ensures.value at c.run_input.ensures.complete script) (λ four. write (c.run_input.ensures.write four)))
+    told-all _ _ _ _ c.in-Ok.ensures.whole (λ script read write. runs-well _ (rw c.as_slice.ensures.value at c.run_input.ensures.complete script) (λ four. write (c.run_input.ensures.write four)))
 
 pub returns-in-Err-TooLong-clause-run : goal.returns-in-Err-TooLong-clause-run
 returns-in-Err-TooLong-clause-run g c =

@@ -1,8 +1,8 @@
-use Rattle.std.proofs.Common.{refl, ◌∙◌, ap, ℕ}
+use Rattle.std.proofs.Common.{◌∙◌, ap, ℕ}
 use Rattle.thr_syntax.specs.declared.tree.Script.{Script}
 use Rattle.thr_text.specs.Journals.{text}
 use Rattle.thr_top.specs.Answers.{RunAnswers, answered, ran}
-use Rattle.thr_top.proofs.Endings.{ends-no-memory, no-memory-run, not-memory}
+use Rattle.thr_top.proofs.Endings.{ends-no-memory, no-memory-run}
 use Rattle.thr_top.proofs.top.run_script.Goals as goal
 
 pub returns-in_default-clause-ends : goal.returns-in_default-clause-ends
@@ -13,7 +13,6 @@ returns-in_default-print-clause-ends g c = λ input short reads. ends-no-memory 
 
 pub returns-clause-ends : goal.returns-clause-ends
 returns-clause-ends g c = λ input short reads.
-    let finished = c.in-Ok.ensures.stop in
-    answered _ _ (ran c.args.script c.in-Ok.journal.entries c.in-Ok.journal.stop short reads c.requires.built c.in-Ok.ensures.legal c.in-Ok.ensures.routed (not-memory _ finished) (rw finished refl)
+    answered _ _ (ran c.args.script c.in-Ok.journal.entries c.in-Ok.journal.stop short reads c.requires.built c.in-Ok.ensures.legal c.in-Ok.ensures.routed c.status_of.ensures.memory c.status_of.ensures.status
     (c.as_slice.ensures.value ∙ c.in-Ok-print.ensures ∙ ap (λ (s : Script). text s c.in-Ok.journal.workers c.in-Ok.journal.entries c.in-Ok.journal.stop) c.in-Ok.ensures.same.0
     ∙ ap (λ (w : ℕ). text c.args.script w c.in-Ok.journal.entries c.in-Ok.journal.stop) c.in-Ok.ensures.same.1)) c.give.ensures.written
