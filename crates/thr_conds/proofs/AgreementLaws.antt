@@ -1,38 +1,47 @@
 -- What follows where conditions and rows agree on who waits.
-use Rattle.std.proofs.Common.{◌≡◌, ℕ, ◌≤◌, Bool, true, false, ◌||◌, ltb, length, Option, Some, None, refl, sym, arith, ◌∙◌}
-use Rattle.std.proofs.lemmas.Bool.Decides.{nat_tests}
+use Rattle.std.proofs.Common.{◌≡◌, ℕ, ℤ, ◌≤◌, true, length, Option, Some, None, refl, sym, subst}
 use Rattle.std.specs.Option.{option_map, is_some}
-use Rattle.thr_parts.specs.declared.row.Seat.{Seat}
+use Rattle.thr_values.specs.declared.number.Tid.{Tid}
+use Rattle.thr_values.specs.declared.number.NameId.{NameId}
 use Rattle.thr_parts.specs.declared.wait.Wait.{Wait}
-use Rattle.thr_parts.specs.Tables.{get, has, IsCanonical}
-use Rattle.thr_parts.specs.Rows.{Rows, thread, row_at, most}
-use Rattle.thr_parts.specs.Conditions.{Conds}
-use Rattle.thr_parts.proofs.TableLaws.{has_get}
-use Rattle.thr_parts.proofs.LengthLaws.{not_longer}
+use Rattle.thr_parts.specs.Tables.{IsCanonical}
+use Rattle.thr_parts.specs.Rows.{Rows, best_of, number_in, most}
+use Rattle.thr_parts.specs.Moves.{take_out_if}
+use Rattle.thr_parts.specs.Conditions.{Conds, wait_of, mutex_of}
+use Rattle.thr_parts.specs.Waking.{some_if, pull_out}
+use Rattle.thr_parts.specs.Expiry.{due, expire}
 use Rattle.thr_tables.specs.Places.{has_place}
-use Rattle.thr_conds.specs.Agreement.{waiting_row, if_waiting, WaitsAgree}
+use Rattle.thr_rows.specs.Room.{HasRoom}
+use Rattle.thr_rows.proofs.AgreementLaws as rows
+use Rattle.thr_rows.proofs.RoomLaws.{room_of_row}
+use Rattle.thr_conds.specs.Agreement.{WaitsAgree}
 use Rattle.thr_conds.specs.Due.{AreSeated}
-
-seat_by : (w : Option Wait) (s : Option Seat) → option_map waiting_row w ≡ if_waiting (row_at s) → is_some w ≡ true → is_some s ≡ true
-seat_by None s e is = absurd (cc)
-seat_by (Some w) None e is = absurd (cc)
-seat_by (Some w) (Some s) e is = refl
+use Rattle.thr_conds.proofs.KeepLaws.{wait_rows, agree_in}
+use Rattle.thr_conds.proofs.TakingLaws.{first_by, first_waits}
 
 -- A thread that waits has a seat.
 pub are_seated : (cs : Conds) (rs : Rows) → WaitsAgree cs rs → AreSeated cs.waits rs
-are_seated cs rs h = record {
-  seated = λ t is. has_get rs.seats t ∙ seat_by (get cs.waits t) (get rs.seats t) (h.same (thread t)) (sym (has_get cs.waits t) ∙ is);
-}
-
-or_true : (a b : Bool) → b ≡ true → (a || b) ≡ true
-or_true true b e = refl
-or_true false b e = e
-
-few : (n k : ℕ) → n ≤ k → k ≤ most → ltb n 4096 ≡ true
-few n k h g = grind (arith, nat_tests)
+are_seated cs rs h = record { seated = λ t is. rows.are_seated wait_rows cs.waits rs t (agree_in cs rs h) is }
 
 -- So there is room for one wait more.
 pub place_for_wait : (cs : Conds) (rs : Rows) (t : ℕ) → WaitsAgree cs rs → IsCanonical cs.waits → length rs.seats ≤ most → has_place cs.waits t 4096 ≡ true
-place_for_wait cs rs t h waits_rise within =
-    or_true (has cs.waits t) (ltb (length cs.waits) 4096)
-    (few (length cs.waits) (length rs.seats) (not_longer cs.waits rs.seats waits_rise (are_seated cs rs h).seated) within)
+place_for_wait cs rs t h rises within = rows.place_for_wait wait_rows cs.waits rs t (agree_in cs rs h) rises within
+
+-- ---- room for a thread that leaves its wait
+
+room_of_waiter : (cs : Conds) (rs : Rows) (t : Tid) → IsCanonical rs.seats → length rs.seats ≤ most → WaitsAgree cs rs → is_some (wait_of cs t) ≡ true → HasRoom (take_out_if rs (Some t))
+room_of_waiter cs rs t h within agrees is = room_of_row rs t h within (rows.waits_in_row wait_rows cs.waits rs t (agree_in cs rs agrees) is)
+
+left_wait : (w : Option Wait) (m : Option NameId) → option_map mutex_of w ≡ Some m → is_some w ≡ true
+left_wait None m e = absurd (cc)
+left_wait (Some w) m e = refl
+
+pub room_of_pull_out : (cs : Conds) (rs : Rows) (t : Tid) (m : Option NameId) → IsCanonical rs.seats → length rs.seats ≤ most → WaitsAgree cs rs → (pull_out cs rs t).left ≡ Some m → HasRoom (pull_out cs rs t).rows
+room_of_pull_out cs rs t m h within agrees e =
+    let waits : is_some (wait_of cs t) ≡ true = left_wait (wait_of cs t) m e in
+    subst (λ b. HasRoom (take_out_if rs (some_if b t))) (sym waits) (room_of_waiter cs rs t h within agrees waits)
+
+pub room_of_expire : (cs : Conds) (rs : Rows) (now : ℤ) (t : Tid) (m : Option NameId) → IsCanonical rs.seats → length rs.seats ≤ most → WaitsAgree cs rs → (expire cs rs now).who ≡ Some (t, m) → HasRoom (expire cs rs now).rows
+room_of_expire cs rs now t m h within agrees e =
+    let is : number_in (best_of (due cs rs now)) ≡ Some t = (first_by cs rs now t m (number_in (best_of (due cs rs now))) refl e).best in
+    subst (λ o. HasRoom (take_out_if rs o)) (sym is) (room_of_waiter cs rs t h within agrees (first_waits cs rs now t (best_of (due cs rs now)) h refl is))

@@ -1,22 +1,19 @@
 -- Conditions and rows agree on who waits after each call where they did before.
-use Rattle.std.proofs.Common.{◌≡◌, ℕ, ℤ, ◌+ℤ◌, Bool, true, false, ◌&&◌, cond, eqb, List, [], ◌∷◌, Option, Some, None, refl, arith, ◌∙◌, ap}
-use Rattle.std.proofs.lemmas.Bool.Decides.{nat_tests}
-use Rattle.std.specs.Option.{option_map, is_some}
+use Rattle.std.proofs.Common.{◌≡◌, ℕ, ℤ, ◌+ℤ◌, Bool, true, false, List, [], ◌∷◌, Option, Some, None, refl, ◌∙◌, ap}
+use Rattle.std.specs.Option.{is_some}
 use Rattle.thr_values.specs.declared.number.Tid.{Tid}
 use Rattle.thr_values.specs.declared.number.NameId.{NameId}
 use Rattle.thr_values.specs.declared.reply.Reply.{Reply}
 use Rattle.thr_parts.specs.declared.row.RowId.{RowId}
 use Rattle.thr_parts.specs.declared.row.RowId.TheVariants as row
-use Rattle.thr_parts.specs.declared.row.Place.TheVariants.{Stands}
-use Rattle.thr_parts.specs.declared.row.Seat.{Seat}
 use Rattle.thr_parts.specs.declared.wait.Wait.{Wait}
 use Rattle.thr_parts.specs.declared.wait.Wait.TheVariants.{Cond, Delay}
-use Rattle.thr_parts.specs.Tables.{get, put, put_if, cut_if, keep_if, has, IsCanonical}
-use Rattle.thr_parts.specs.Replies.{is_done, is_blocks, is_value}
-use Rattle.thr_parts.specs.Rows.{Rows, seat_of, row_at, row_of, best_of, number_in, best}
-use Rattle.thr_parts.specs.Moves.{take_out, take_out_if, leave, block_in, block_if}
-use Rattle.thr_parts.specs.Mutexes.{Locks, mutex_at, waiters_row, owner}
-use Rattle.thr_parts.specs.Locking.{is_free, is_last, lock, lock_reply, unlock, unlock_reply, regain}
+use Rattle.thr_parts.specs.Tables.{put_if, keep_if, has, IsCanonical}
+use Rattle.thr_parts.specs.Replies.{is_blocks, is_value}
+use Rattle.thr_parts.specs.Rows.{Rows, best_of, number_in, best}
+use Rattle.thr_parts.specs.Moves.{take_out, take_out_if, block_if}
+use Rattle.thr_parts.specs.Mutexes.{Locks}
+use Rattle.thr_parts.specs.Locking.{lock, unlock, regain}
 use Rattle.thr_parts.specs.Conditions.{Conds, cond_init, cond_destroy, wait_of, wait, timedwait, begin_wait, delay, delay_reply}
 use Rattle.thr_parts.specs.Waking.{without_wait, some_if, thread_in, mutex_with, next_waiter, take_next, signal, pull_out, resume, wake_all}
 use Rattle.thr_parts.specs.Expiry.{due, expire}
@@ -25,46 +22,40 @@ use Rattle.thr_parts.specs.OnceBlocks.{enter, undone}
 use Rattle.thr_parts.specs.Pipes.{Pipes, pipe_at, read, write}
 use Rattle.thr_parts.specs.Closing.{free_if, close_out}
 use Rattle.thr_parts.specs.CancelledWaits.{cancel_wait}
-use Rattle.thr_parts.proofs.TableLaws.{get_put, get_cut}
 use Rattle.thr_parts.proofs.MoveLaws.{canonical_block_if}
 use Rattle.thr_parts.proofs.PartLaws.{canonical_free_row}
-use Rattle.thr_conds.specs.Agreement.{waiting_row, if_waiting, WaitsAgree}
-use Rattle.thr_conds.proofs.KeepLaws.{agree_at, agree_from, changed, best_waits_not, agree_put, agree_take_out, agree_take_out_if, agree_take_best, agree_leave, agree_block_if, agree_free_if}
+use Rattle.thr_rows.proofs.AgreementLaws.{Agree, from_kept, gone}
+use Rattle.thr_rows.proofs.AgreementLaws as rows
+use Rattle.thr_rows.proofs.AgreedCalls as calls
+use Rattle.thr_conds.specs.Agreement.{waiting_row, WaitsAgree}
+use Rattle.thr_conds.proofs.KeepLaws.{wait_rows, are_other, agree_in, agree_of}
 use Rattle.thr_conds.proofs.TakingLaws.{next_by, first_by, some_wait, first_waits}
 
 -- ---- made and not made
 
 pub agree_init : (cs : Conds) (rs : Rows) (c : NameId) → WaitsAgree cs rs → WaitsAgree (cond_init cs c).conds rs
-agree_init cs rs c h = agree_from (cond_init cs c).conds rs (λ q. agree_at cs rs q h)
+agree_init cs rs c h = record { same = h.same }
 
 pub agree_destroy : (cs : Conds) (rs : Rows) (c : NameId) → WaitsAgree cs rs → WaitsAgree (cond_destroy cs c).conds rs
-agree_destroy cs rs c h = agree_from (cond_destroy cs c).conds rs (λ q. agree_at cs rs q h)
+agree_destroy cs rs c h = record { same = h.same }
 
 -- ---- waits that begin
-
-stands_there : (w : Wait) → option_map waiting_row (Some w) ≡ if_waiting (Some (waiting_row w))
-stands_there (Cond c m until) = refl
-stands_there (Delay until) = refl
-
-begun : (cs : Conds) (rs : Rows) (w : Wait) (t : Tid) (rank : ℕ) → WaitsAgree cs rs
-    → WaitsAgree (record { made = cs.made; waits = put cs.waits t.0 w }) (block_in rs (waiting_row w) t rank)
-begun cs rs w t rank h =
-    changed cs (record { made = cs.made; waits = put cs.waits t.0 w }) (leave rs t) (block_in rs (waiting_row w) t rank) t.0 (Some w)
-    (Some (record { rank = rank; place = Stands (waiting_row w) rs.next_arrival })) (agree_leave cs rs t h) (stands_there w) (λ q. get_put cs.waits t.0 q w) (λ q. get_put (leave rs t).seats t.0 q _)
 
 abbrev begun_if : Bool → Conds → Wait → Tid → Conds
 begun_if b cs w t = record { made = cs.made; waits = put_if cs.waits t.0 (keep_if b (Some w)) }
 
 agree_begun_if : (b : Bool) (cs : Conds) (rs : Rows) (w : Wait) (t : Tid) (rank : ℕ) → WaitsAgree cs rs → WaitsAgree (begun_if b cs w t) (block_if b rs (waiting_row w) t rank)
-agree_begun_if true cs rs w t rank h =
-    agree_from (begun_if true cs w t) (block_if true rs (waiting_row w) t rank) (λ q. agree_at (begun_if true cs w t) (block_in rs (waiting_row w) t rank) q (begun cs rs w t rank h))
-agree_begun_if false cs rs w t rank h = agree_from (begun_if false cs w t) (block_if false rs (waiting_row w) t rank) (λ q. agree_at cs rs q h)
+agree_begun_if b cs rs w t rank h =
+    agree_of (begun_if b cs w t) (block_if b rs (waiting_row w) t rank) (rows.agree_begun_if wait_rows b cs.waits rs w t rank (agree_in cs rs h))
 
 agree_begin : (cs : Conds) (ls : Locks) (rs : Rows) (c m : NameId) (until : Option ℤ) (t : Tid) (rank : ℕ) (said : Reply) → IsCanonical rs.seats → WaitsAgree cs rs
     → WaitsAgree (begin_wait cs ls rs c m until t rank said).conds (begin_wait cs ls rs c m until t rank said).rows
 agree_begin cs ls rs c m until t rank said h agrees =
-    agree_take_best (is_blocks said) (begun_if (is_blocks said) cs (Cond c m until) t) (block_if (is_blocks said) rs (row.Cond c) t rank) (row.Mutex m)
-    (canonical_block_if (is_blocks said) rs (row.Cond c) t rank h) (agree_begun_if (is_blocks said) cs rs (Cond c m until) t rank agrees) refl
+    let begun : Conds = begun_if (is_blocks said) cs (Cond c m until) t in
+    let waiting : Rows = block_if (is_blocks said) rs (row.Cond c) t rank in
+    agree_of (begin_wait cs ls rs c m until t rank said).conds (begin_wait cs ls rs c m until t rank said).rows
+    (rows.agree_take_best wait_rows (is_blocks said) begun.waits waiting (row.Mutex m) (canonical_block_if (is_blocks said) rs (row.Cond c) t rank h)
+    (agree_in begun waiting (agree_begun_if (is_blocks said) cs rs (Cond c m until) t rank agrees)) refl)
 
 pub agree_wait : (cs : Conds) (ls : Locks) (rs : Rows) (c m : NameId) (t : Tid) (rank : ℕ) → IsCanonical rs.seats → WaitsAgree cs rs
     → WaitsAgree (wait cs ls rs c m t rank).conds (wait cs ls rs c m t rank).rows
@@ -79,37 +70,20 @@ agree_delay cs rs ticks now t rank agrees = agree_begun_if (is_blocks (delay_rep
 
 -- ---- waits that end
 
-in_row_by : (w : Option Wait) (s : Option Seat) → option_map waiting_row w ≡ if_waiting (row_at s) → is_some w ≡ true → (o : Option RowId) → row_at s ≡ o → is_some o ≡ true
-in_row_by None s e is o at = absurd (cc)
-in_row_by (Some w) s e is None at = absurd (cc (ap if_waiting at))
-in_row_by (Some w) s e is (Some r) at = refl
-
 -- A thread that has a wait leaves it, and its row.
 agree_taken : (cs : Conds) (rs : Rows) (t : Tid) → WaitsAgree cs rs → is_some (wait_of cs t) ≡ true → WaitsAgree (without_wait cs (Some t)) (take_out_if rs (Some t))
 agree_taken cs rs t h is =
-    changed cs (without_wait cs (Some t)) rs (take_out_if rs (Some t)) t.0 None None h refl (λ q. get_cut cs.waits t.0 q) (λ q.
-    ap (λ (b : Bool). get (cut_if b rs.seats t.0) q) (in_row_by (wait_of cs t) (seat_of rs t) (h.same t) is (row_of rs t) refl) ∙ get_cut rs.seats t.0 q)
+    let agrees : Agree wait_rows cs.waits rs = agree_in cs rs h in
+    agree_of (without_wait cs (Some t)) (take_out_if rs (Some t)) (rows.agree_left wait_rows cs.waits rs t agrees (rows.waits_in_row wait_rows cs.waits rs t agrees is))
 
 agree_unchanged : (cs : Conds) (rs : Rows) → WaitsAgree cs rs → WaitsAgree (without_wait cs None) (take_out_if rs None)
-agree_unchanged cs rs h = agree_from (without_wait cs None) (take_out_if rs None) (λ q. agree_at cs rs q h)
-
-same_itself : (x : ℕ) → eqb x x ≡ true
-same_itself x = grind (arith, nat_tests)
-
--- It has no wait any more.
-gone : (cs : Conds) (t : Tid) → wait_of (without_wait cs (Some t)) t ≡ None
-gone cs t = get_cut cs.waits t.0 t.0 ∙ ap (λ (b : Bool). cond b None (get cs.waits t.0)) (same_itself t.0)
+agree_unchanged cs rs h = record { same = h.same }
 
 pub agree_regain : (cs : Conds) (ls : Locks) (rs : Rows) (m : NameId) (t : Tid) (rank : ℕ) → WaitsAgree cs rs → wait_of cs t ≡ None → WaitsAgree cs (regain ls rs m t rank).rows
-agree_regain cs ls rs m t rank h alone = agree_put cs rs (cond (is_free (mutex_at ls (Some m))) row.Ready (row.Mutex m)) t rank h alone (no_waiters (is_free (mutex_at ls (Some m))))
-  where
-    no_waiters : (b : Bool) → if_waiting (Some (cond b row.Ready (row.Mutex m))) ≡ None
-    no_waiters true = refl
-    no_waiters false = refl
+agree_regain cs ls rs m t rank h alone = agree_of cs (regain ls rs m t rank).rows (calls.agree_regain wait_rows cs.waits ls rs m t rank are_other (agree_in cs rs h) alone)
 
 pub agree_resume : (rank : Tid → ℕ) (cs : Conds) (ls : Locks) (rs : Rows) (t : Tid) (m : Option NameId) → WaitsAgree cs rs → wait_of cs t ≡ None → WaitsAgree cs (resume rank ls rs t m).rows
-agree_resume rank cs ls rs t None h alone = agree_put cs rs row.Ready t (rank t) h alone refl
-agree_resume rank cs ls rs t (Some m) h alone = agree_regain cs ls rs m t (rank t) h alone
+agree_resume rank cs ls rs t m h alone = agree_of cs (resume rank ls rs t m).rows (calls.agree_resume wait_rows cs.waits rank ls rs t m are_other (agree_in cs rs h) alone)
 
 agree_out_if : (cs : Conds) (rs : Rows) (t : Tid) (b : Bool) → is_some (wait_of cs t) ≡ b → WaitsAgree cs rs → WaitsAgree (without_wait cs (some_if b t)) (take_out_if rs (some_if b t))
 agree_out_if cs rs t true is h = agree_taken cs rs t h is
@@ -123,7 +97,7 @@ nothing None e = refl
 nothing (Some x) e = absurd (cc)
 
 gone_if : (cs : Conds) (t : Tid) (b : Bool) → is_some (wait_of cs t) ≡ b → wait_of (without_wait cs (some_if b t)) t ≡ None
-gone_if cs t true is = gone cs t
+gone_if cs t true is = gone cs.waits t.0
 gone_if cs t false is = nothing (wait_of cs t) is
 
 pub pulled_out : (cs : Conds) (rs : Rows) (t : Tid) → wait_of (pull_out cs rs t).conds t ≡ None
@@ -172,51 +146,44 @@ agree_expire cs rs now h agrees =
 
 -- The one that was taken waits no more.
 pub taken_next_waits_not : (cs : Conds) (rs : Rows) (c : NameId) (t : Tid) (m : NameId) → (take_next cs rs c).waiter ≡ Some (t, m) → wait_of (take_next cs rs c).conds t ≡ None
-taken_next_waits_not cs rs c t m e = ap (λ (o : Option (Tid × NameId)). wait_of (without_wait cs (thread_in o)) t) e ∙ gone cs t
+taken_next_waits_not cs rs c t m e = ap (λ (o : Option (Tid × NameId)). wait_of (without_wait cs (thread_in o)) t) e ∙ gone cs.waits t.0
 
 pub signalled_waits_not : (cs : Conds) (rs : Rows) (c : NameId) (t : Tid) (m : NameId) → (signal cs rs c).waiter ≡ Some (t, m) → wait_of (signal cs rs c).conds t ≡ None
-signalled_waits_not cs rs c t m e = ap (λ (o : Option (Tid × NameId)). wait_of (without_wait cs (thread_in o)) t) e ∙ gone cs t
+signalled_waits_not cs rs c t m e = ap (λ (o : Option (Tid × NameId)). wait_of (without_wait cs (thread_in o)) t) e ∙ gone cs.waits t.0
 
 pub expired_waits_not : (cs : Conds) (rs : Rows) (now : ℤ) (t : Tid) (m : Option NameId) → (expire cs rs now).who ≡ Some (t, m) → wait_of (expire cs rs now).conds t ≡ None
 expired_waits_not cs rs now t m e =
-    ap (λ (o : Option Tid). wait_of (without_wait cs o) t) (first_by cs rs now t m (number_in (best_of (due cs rs now))) refl e).best ∙ gone cs t
+    ap (λ (o : Option Tid). wait_of (without_wait cs o) t) (first_by cs rs now t m (number_in (best_of (due cs rs now))) refl e).best ∙ gone cs.waits t.0
 
 -- ---- calls on other objects
 
-other_row : (m : Option NameId) → if_waiting (Some (waiters_row m)) ≡ None
-other_row None = refl
-other_row (Some m) = refl
-
 pub agree_lock : (cs : Conds) (ls : Locks) (rs : Rows) (m : Option NameId) (t : Tid) (rank : ℕ) → WaitsAgree cs rs → wait_of cs t ≡ None → WaitsAgree cs (lock ls rs m t rank).rows
-agree_lock cs ls rs m t rank h alone = agree_block_if (is_blocks (lock_reply (mutex_at ls m) t)) cs rs (waiters_row m) t rank h alone (other_row m)
+agree_lock cs ls rs m t rank h alone = agree_of cs (lock ls rs m t rank).rows (calls.agree_lock wait_rows cs.waits ls rs m t rank are_other (agree_in cs rs h) alone)
 
 pub agree_unlock : (cs : Conds) (ls : Locks) (rs : Rows) (m : Option NameId) (t : Tid) → IsCanonical rs.seats → WaitsAgree cs rs → WaitsAgree cs (unlock ls rs m t).rows
-agree_unlock cs ls rs m t h agrees = agree_take_best (is_done (unlock_reply (mutex_at ls m) t) && is_last (owner ls m)) cs rs (waiters_row m) h agrees (other_row m)
+agree_unlock cs ls rs m t h agrees = agree_of cs (unlock ls rs m t).rows (calls.agree_unlock wait_rows cs.waits ls rs m t are_other h (agree_in cs rs agrees))
 
 pub agree_enter : (cs : Conds) (os : Onces) (rs : Rows) (o : NameId) (t : Tid) (rank : ℕ) → WaitsAgree cs rs → wait_of cs t ≡ None → WaitsAgree cs (enter os rs o t rank).rows
-agree_enter cs os rs o t rank h alone = agree_block_if (is_blocks (enter os rs o t rank).reply) cs rs (row.Once o) t rank h alone refl
+agree_enter cs os rs o t rank h alone = agree_of cs (enter os rs o t rank).rows (calls.agree_enter wait_rows cs.waits os rs o t rank are_other (agree_in cs rs h) alone)
 
 pub agree_undone : (cs : Conds) (os : Onces) (rs : Rows) (o : NameId) → IsCanonical rs.seats → WaitsAgree cs rs → WaitsAgree cs (undone os rs o).rows
-agree_undone cs os rs o h agrees = agree_take_best true cs rs (row.Once o) h agrees refl
+agree_undone cs os rs o h agrees = agree_of cs (undone os rs o).rows (calls.agree_undone wait_rows cs.waits os rs o are_other h (agree_in cs rs agrees))
 
 pub agree_read : (cs : Conds) (ps : Pipes) (rs : Rows) (p : NameId) (t : Tid) (rank : ℕ) → IsCanonical rs.seats → WaitsAgree cs rs → wait_of cs t ≡ None → WaitsAgree cs (read ps rs p t rank).rows
 agree_read cs ps rs p t rank h agrees alone =
-    agree_take_out_if cs (block_if (is_blocks (read ps rs p t rank).reply) rs (row.Reader p) t rank) (read ps rs p t rank).relieved
-    (agree_block_if (is_blocks (read ps rs p t rank).reply) cs rs (row.Reader p) t rank agrees alone refl)
-    (λ u e. best_writer u (from_kept (is_value (read ps rs p t rank).reply) (best rs (row.Writer p)) u e))
-  where
-    from_kept : (b : Bool) (o : Option Tid) (u : Tid) → keep_if b o ≡ Some u → o ≡ Some u
-    from_kept true o u e = e
-    from_kept false o u e = absurd (cc)
-
-    best_writer : (u : Tid) → best rs (row.Writer p) ≡ Some u → wait_of cs u ≡ None
-    best_writer u e = best_waits_not cs rs (row.Writer p) u h agrees refl e
+    let said : Reply = (read ps rs p t rank).reply in
+    let before : Agree wait_rows cs.waits rs = agree_in cs rs agrees in
+    agree_of cs (read ps rs p t rank).rows
+    (rows.agree_take_out_if wait_rows cs.waits (block_if (is_blocks said) rs (row.Reader p) t rank) (read ps rs p t rank).relieved
+    (rows.agree_block_if wait_rows (is_blocks said) cs.waits rs (row.Reader p) t rank before alone refl)
+    (λ u e. rows.best_waits_not wait_rows cs.waits rs (row.Writer p) u h before refl (from_kept (is_value said) (best rs (row.Writer p)) u e)))
 
 pub agree_write : (cs : Conds) (ps : Pipes) (rs : Rows) (p : NameId) (v : ℤ) (t : Tid) (rank : ℕ) → IsCanonical rs.seats → WaitsAgree cs rs → wait_of cs t ≡ None
     → WaitsAgree cs (write ps rs p v t rank).rows
 agree_write cs ps rs p v t rank h agrees alone =
-    agree_block_if (is_blocks (write ps rs p v t rank).reply) cs (take_out_if rs (write ps rs p v t rank).reader) (row.Writer p) t rank
-    (agree_take_best (pipe_at ps p).is_open cs rs (row.Reader p) h agrees refl) alone refl
+    agree_of cs (write ps rs p v t rank).rows
+    (rows.agree_block_if wait_rows (is_blocks (write ps rs p v t rank).reply) cs.waits (take_out_if rs (write ps rs p v t rank).reader) (row.Writer p) t rank
+    (rows.agree_take_best wait_rows (pipe_at ps p).is_open cs.waits rs (row.Reader p) h (agree_in cs rs agrees) refl) alone refl)
 
 canonical_free_if : (b : Bool) (rank : Tid → ℕ) (rs : Rows) (r : RowId) → IsCanonical rs.seats → IsCanonical (free_if b rank rs r).rows.seats
 canonical_free_if true rank rs r h = canonical_free_row rank rs r h
@@ -225,13 +192,14 @@ canonical_free_if false rank rs r h = h
 pub agree_close_out : (rank : Tid → ℕ) (cs : Conds) (ps : Pipes) (rs : Rows) (p : NameId) → IsCanonical rs.seats → WaitsAgree cs rs → WaitsAgree cs (close_out rank ps rs p).rows
 agree_close_out rank cs ps rs p h agrees =
     let opened : Bool = (pipe_at ps p).is_open in
-    agree_free_if opened rank cs (free_if opened rank rs (row.Reader p)).rows (row.Writer p) (canonical_free_if opened rank rs (row.Reader p) h)
-    (agree_free_if opened rank cs rs (row.Reader p) h agrees refl) refl
+    agree_of cs (close_out rank ps rs p).rows
+    (rows.agree_free_if wait_rows opened rank cs.waits (free_if opened rank rs (row.Reader p)).rows (row.Writer p) (canonical_free_if opened rank rs (row.Reader p) h)
+    (rows.agree_free_if wait_rows opened rank cs.waits rs (row.Reader p) h (agree_in cs rs agrees) refl) refl)
 
 agree_cancelled : (cs : Conds) (rs : Rows) (t : Tid) (b : Bool) → is_some (wait_of cs t) ≡ b → WaitsAgree cs rs → WaitsAgree (without_wait cs (some_if b t)) (take_out rs t).rows
 agree_cancelled cs rs t true is h = agree_taken cs rs t h is
 agree_cancelled cs rs t false is h =
-    agree_from (without_wait cs None) (take_out rs t).rows (λ q. agree_at cs (take_out rs t).rows q (agree_take_out cs rs t h (nothing (wait_of cs t) is)))
+    agree_of (without_wait cs None) (take_out rs t).rows (rows.agree_take_out wait_rows cs.waits rs t (agree_in cs rs h) (nothing (wait_of cs t) is))
 
 pub agree_cancel_wait : (rank : Tid → ℕ) (cs : Conds) (ps : Pipes) (ls : Locks) (rs : Rows) (t : Tid) → WaitsAgree cs rs
     → WaitsAgree (cancel_wait rank cs ps ls rs t).conds (cancel_wait rank cs ps ls rs t).rows

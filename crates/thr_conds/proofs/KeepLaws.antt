@@ -1,203 +1,74 @@
 -- Whatever becomes of threads in rows and on processors, conditions and rows go on to agree on who waits.
-use Rattle.std.proofs.Common.{◌≡◌, ℕ, Bool, true, false, ◌||◌, cond, eqb, List, [], ◌∷◌, Option, Some, None, refl, sym, arith, ◌∙◌, ap}
-use Rattle.std.proofs.lemmas.Bool.Decides.{nat_tests}
-use Rattle.std.specs.Option.{option_map, is_none}
+use Rattle.std.proofs.Common.{◌≡◌, ℕ, Bool, Option, None, Some, refl}
 use Rattle.thr_values.specs.declared.number.Tid.{Tid}
+use Rattle.thr_values.specs.declared.number.NameId.{NameId}
 use Rattle.thr_parts.specs.declared.row.RowId.{RowId}
-use Rattle.thr_parts.specs.declared.row.RowId.TheVariants as row
-use Rattle.thr_parts.specs.declared.row.Place.{Place}
-use Rattle.thr_parts.specs.declared.row.Place.TheVariants.{Runs, Stands}
-use Rattle.thr_parts.specs.declared.row.Seat.{Seat}
 use Rattle.thr_parts.specs.declared.wait.Wait.{Wait}
-use Rattle.thr_parts.specs.Tables.{Table, get, put_if, cut_if, keep_if, IsCanonical}
-use Rattle.thr_parts.specs.Rows.{Rows, no_rows, thread, seat_of, row_in, row_at, row_of, is_in_row, is_running, standing, best_of, best, best_first, is_among}
-use Rattle.thr_parts.specs.Moves.{as_ranked, put_in_row, take_out, take_out_if, leave, block_in, block_if, set_rank, make_ready, make_all_ready, free_row}
-use Rattle.thr_parts.specs.Dispatch.{running, next_for, with_processor, dispatch, gives_way, a_turn_later, as_kept, keeps}
-use Rattle.thr_parts.specs.Closing.{free_if}
+use Rattle.thr_parts.specs.declared.wait.Wait.TheVariants.{Cond, Delay}
+use Rattle.thr_parts.specs.Tables.{keep_if, IsCanonical}
+use Rattle.thr_parts.specs.Rows.{Rows, no_rows, thread, row_of, best}
+use Rattle.thr_parts.specs.Moves.{put_in_row, take_out, take_out_if, leave, block_in, set_rank, free_row}
+use Rattle.thr_parts.specs.Dispatch.{dispatch, keeps}
+use Rattle.thr_parts.specs.Mutexes.{waiters_row}
 use Rattle.thr_parts.specs.Conditions.{Conds, no_conds, wait_of}
-use Rattle.thr_parts.proofs.TableLaws.{get_none, get_put, get_cut}
-use Rattle.thr_parts.proofs.RowLaws.{best_stands}
-use Rattle.thr_parts.proofs.StandingLaws.{among_is}
+use Rattle.thr_rows.proofs.AgreementLaws.{Waits, Agree}
+use Rattle.thr_rows.proofs.AgreementLaws as rows
+use Rattle.thr_rows.proofs.AgreedCalls.{IsOther}
 use Rattle.thr_conds.specs.Agreement.{waiting_row, if_waiting, WaitsAgree}
 
--- ---- one number
+pub stands_there : (w : Wait) → if_waiting (Some (waiting_row w)) ≡ Some (waiting_row w)
+stands_there (Cond c m until) = refl
+stands_there (Delay until) = refl
 
--- The row in which a seat that is there keeps a thread that waits.
-abbrev waiting_at : Option Seat → Option RowId
-waiting_at s = if_waiting (row_at s)
+-- How waits on conditions and for times stand in rows.
+abbrev pub wait_rows : Waits Wait
+wait_rows = record { stands = waiting_row; its = if_waiting; nowhere = refl; ready = refl; own = stands_there }
 
--- Conditions and rows agree on the thread of this number.
-abbrev pub AgreeAt : Conds → Rows → ℕ → Type 0
-AgreeAt cs rs q = option_map waiting_row (get cs.waits q) ≡ waiting_at (get rs.seats q)
+other_row : (m : Option NameId) → if_waiting (Some (waiters_row m)) ≡ None
+other_row None = refl
+other_row (Some m) = refl
 
-pub agree_at : (cs : Conds) (rs : Rows) (q : ℕ) → WaitsAgree cs rs → AgreeAt cs rs q
-agree_at cs rs q h = h.same (thread q)
+pub are_other : IsOther wait_rows
+are_other = record { lock = other_row; once = λ b. refl }
 
-pub agree_from : (cs : Conds) (rs : Rows) → ((q : ℕ) → AgreeAt cs rs q) → WaitsAgree cs rs
-agree_from cs rs h = record { same = λ t. h t.0 }
+pub agree_in : (cs : Conds) (rs : Rows) → WaitsAgree cs rs → Agree wait_rows cs.waits rs
+agree_in cs rs h = record { same = λ q. h.same (thread q) }
 
-same_number : (x y : ℕ) → eqb x y ≡ true → x ≡ y
-same_number x y e = grind (arith, nat_tests)
-
-changed_at : (w v : Option Wait) (s r : Option Seat) (b : Bool) → option_map waiting_row w ≡ waiting_at s → option_map waiting_row v ≡ waiting_at r
-    → option_map waiting_row (cond b w v) ≡ waiting_at (cond b s r)
-changed_at w v s r true here rest = here
-changed_at w v s r false here rest = rest
-
--- Where one thread comes to wait elsewhere, by both.
-pub changed : (cs after : Conds) (rs new : Rows) (t : ℕ) (w : Option Wait) (s : Option Seat) → WaitsAgree cs rs → option_map waiting_row w ≡ waiting_at s
-    → ((q : ℕ) → get after.waits q ≡ cond (eqb t q) w (get cs.waits q)) → ((q : ℕ) → get new.seats q ≡ cond (eqb t q) s (get rs.seats q)) → WaitsAgree after new
-changed cs after rs new t w s h here waits seats =
-    agree_from after new (λ q. ap (option_map waiting_row) (waits q)
-    ∙ changed_at w (get cs.waits q) s (get rs.seats q) (eqb t q) here (agree_at cs rs q h) ∙ sym (ap waiting_at (seats q)))
-
-itself_at : {A : Type 0} (m : Table A) (t q : ℕ) (b : Bool) → eqb t q ≡ b → get m q ≡ cond b (get m t) (get m q)
-itself_at m t q true at = ap (get m) (sym (same_number t q at))
-itself_at m t q false at = refl
-
--- Where one thread comes to a place at which it waits as before.
-pub moved : (cs : Conds) (rs new : Rows) (t : ℕ) (s : Option Seat) → WaitsAgree cs rs → waiting_at s ≡ waiting_at (get rs.seats t)
-    → ((q : ℕ) → get new.seats q ≡ cond (eqb t q) s (get rs.seats q)) → WaitsAgree cs new
-moved cs rs new t s h here seats =
-    changed cs cs rs new t (get cs.waits t) s h (agree_at cs rs t h ∙ sym here) (λ q. itself_at cs.waits t q (eqb t q) refl) seats
-
--- ---- who doesn't wait
-
-no_wait_by : (w : Option Wait) → option_map waiting_row w ≡ None → w ≡ None
-no_wait_by None e = refl
-no_wait_by (Some w) e = absurd (cc)
-
--- A thread that stands in another row, or in none, has no wait.
-pub no_wait : (cs : Conds) (rs : Rows) (t : Tid) → WaitsAgree cs rs → if_waiting (row_of rs t) ≡ None → wait_of cs t ≡ None
-no_wait cs rs t h e = no_wait_by (wait_of cs t) (h.same t ∙ e)
-
--- And one that has no wait stands in another row, or in none.
-elsewhere : (cs : Conds) (rs : Rows) (t : Tid) → WaitsAgree cs rs → wait_of cs t ≡ None → waiting_at (seat_of rs t) ≡ None
-elsewhere cs rs t h e = sym (h.same t) ∙ ap (option_map waiting_row) e
-
-pub best_waits_not : (cs : Conds) (rs : Rows) (r : RowId) (t : Tid) → IsCanonical rs.seats → WaitsAgree cs rs → if_waiting (Some r) ≡ None → best rs r ≡ Some t → wait_of cs t ≡ None
-best_waits_not cs rs r t h agrees other is = no_wait cs rs t agrees (ap if_waiting (best_stands rs r t h is) ∙ other)
-
--- ---- the opening
+pub agree_of : (cs : Conds) (rs : Rows) → Agree wait_rows cs.waits rs → WaitsAgree cs rs
+agree_of cs rs h = record { same = λ t. h.same t.0 }
 
 pub agree_opening : WaitsAgree no_conds no_rows
-agree_opening =
-    agree_from no_conds no_rows (λ q. ap (option_map waiting_row) (get_none q) ∙ sym (ap waiting_at (get_none q)))
+agree_opening = agree_of no_conds no_rows (rows.agree_opening wait_rows)
 
--- ---- threads that come and go
+pub no_wait : (cs : Conds) (rs : Rows) (t : Tid) → WaitsAgree cs rs → if_waiting (row_of rs t) ≡ None → wait_of cs t ≡ None
+no_wait cs rs t h e = rows.no_wait wait_rows cs.waits rs t (agree_in cs rs h) e
+
+pub best_waits_not : (cs : Conds) (rs : Rows) (r : RowId) (t : Tid) → IsCanonical rs.seats → WaitsAgree cs rs → if_waiting (Some r) ≡ None → best rs r ≡ Some t → wait_of cs t ≡ None
+best_waits_not cs rs r t h agrees other is = rows.best_waits_not wait_rows cs.waits rs r t h (agree_in cs rs agrees) other is
 
 pub agree_put : (cs : Conds) (rs : Rows) (r : RowId) (t : Tid) (rank : ℕ) → WaitsAgree cs rs → wait_of cs t ≡ None → if_waiting (Some r) ≡ None → WaitsAgree cs (put_in_row rs r t rank)
-agree_put cs rs r t rank h alone other =
-    moved cs rs (put_in_row rs r t rank) t.0 (Some (record { rank = rank; place = Stands r rs.next_arrival })) h (other ∙ sym (elsewhere cs rs t h alone)) (λ q. get_put rs.seats t.0 q _)
-
-agree_cut_if : (b : Bool) (cs : Conds) (rs : Rows) (t n : ℕ) → WaitsAgree cs rs → (b ≡ true → waiting_at (get rs.seats t) ≡ None)
-    → WaitsAgree cs (record { seats = cut_if b rs.seats t; next_arrival = n })
-agree_cut_if true cs rs t n h here = moved cs rs (record { seats = cut_if true rs.seats t; next_arrival = n }) t None h (sym (here refl)) (λ q. get_cut rs.seats t q)
-agree_cut_if false cs rs t n h here = agree_from cs (record { seats = rs.seats; next_arrival = n }) (λ q. agree_at cs rs q h)
+agree_put cs rs r t rank h alone other = agree_of cs (put_in_row rs r t rank) (rows.agree_put wait_rows cs.waits rs r t rank (agree_in cs rs h) alone other)
 
 pub agree_take_out : (cs : Conds) (rs : Rows) (t : Tid) → WaitsAgree cs rs → wait_of cs t ≡ None → WaitsAgree cs (take_out rs t).rows
-agree_take_out cs rs t h alone = agree_cut_if (is_in_row (seat_of rs t)) cs rs t.0 rs.next_arrival h (λ _. elsewhere cs rs t h alone)
+agree_take_out cs rs t h alone = agree_of cs (take_out rs t).rows (rows.agree_take_out wait_rows cs.waits rs t (agree_in cs rs h) alone)
 
-pub agree_take_out_if : (cs : Conds) (rs : Rows) (o : Option Tid) → WaitsAgree cs rs → ((t : Tid) → o ≡ Some t → wait_of cs t ≡ None) → WaitsAgree cs (take_out_if rs o)
-agree_take_out_if cs rs None h alone = agree_from cs (take_out_if rs None) (λ q. agree_at cs rs q h)
-agree_take_out_if cs rs (Some t) h alone = agree_take_out cs rs t h (alone t refl)
-
-from_kept : {A : Type 0} (b : Bool) (o : Option A) (x : A) → keep_if b o ≡ Some x → o ≡ Some x
-from_kept true o x e = e
-from_kept false o x e = absurd (cc)
-
--- The best of another row may leave it.
 pub agree_take_best : (b : Bool) (cs : Conds) (rs : Rows) (r : RowId) → IsCanonical rs.seats → WaitsAgree cs rs → if_waiting (Some r) ≡ None → WaitsAgree cs (take_out_if rs (keep_if b (best rs r)))
-agree_take_best b cs rs r h agrees other =
-    agree_take_out_if cs rs (keep_if b (best rs r)) agrees (λ t e. best_waits_not cs rs r t h agrees other (from_kept b (best rs r) t e))
-
-no_row : (o : Option RowId) → is_none o ≡ true → o ≡ None
-no_row None e = refl
-no_row (Some r) e = absurd (cc)
-
-running_row : (s : Option Seat) → is_running s ≡ true → waiting_at s ≡ None
-running_row None e = absurd (cc)
-running_row (Some s) e = ap if_waiting (no_row (row_in s.place) e)
+agree_take_best b cs rs r h agrees other = agree_of cs (take_out_if rs (keep_if b (best rs r))) (rows.agree_take_best wait_rows b cs.waits rs r h (agree_in cs rs agrees) other)
 
 pub agree_leave : (cs : Conds) (rs : Rows) (t : Tid) → WaitsAgree cs rs → WaitsAgree cs (leave rs t)
-agree_leave cs rs t h = agree_cut_if (is_running (seat_of rs t)) cs rs t.0 rs.next_arrival h (running_row (seat_of rs t))
+agree_leave cs rs t h = agree_of cs (leave rs t) (rows.agree_leave wait_rows cs.waits rs t (agree_in cs rs h))
 
 pub agree_block_in : (cs : Conds) (rs : Rows) (r : RowId) (t : Tid) (rank : ℕ) → WaitsAgree cs rs → wait_of cs t ≡ None → if_waiting (Some r) ≡ None → WaitsAgree cs (block_in rs r t rank)
-agree_block_in cs rs r t rank h alone other = agree_put cs (leave rs t) r t rank (agree_leave cs rs t h) alone other
-
-pub agree_block_if : (b : Bool) (cs : Conds) (rs : Rows) (r : RowId) (t : Tid) (rank : ℕ) → WaitsAgree cs rs → wait_of cs t ≡ None → if_waiting (Some r) ≡ None
-    → WaitsAgree cs (block_if b rs r t rank)
-agree_block_if true cs rs r t rank h alone other =
-    agree_from cs (block_if true rs r t rank) (λ q. agree_at cs (block_in rs r t rank) q (agree_block_in cs rs r t rank h alone other))
-agree_block_if false cs rs r t rank h alone other = agree_from cs (block_if false rs r t rank) (λ q. agree_at cs rs q h)
-
--- ---- seats that are replaced
-
-agree_replaced : (f : Seat → Seat) (cs : Conds) (rs : Rows) (t n : ℕ) (o : Option Seat) → get rs.seats t ≡ o → WaitsAgree cs rs → ((s : Seat) → o ≡ Some s → waiting_at (Some (f s)) ≡ waiting_at (Some s))
-    → WaitsAgree cs (record { seats = put_if rs.seats t (option_map f o); next_arrival = n })
-agree_replaced f cs rs t n None at h here = agree_from cs (record { seats = rs.seats; next_arrival = n }) (λ q. agree_at cs rs q h)
-agree_replaced f cs rs t n (Some s) at h here =
-    moved cs rs (record { seats = put_if rs.seats t (Some (f s)); next_arrival = n }) t (Some (f s)) h (here s refl ∙ sym (ap waiting_at at)) (λ q. get_put rs.seats t q (f s))
+agree_block_in cs rs r t rank h alone other = agree_of cs (block_in rs r t rank) (rows.agree_block_in wait_rows cs.waits rs r t rank (agree_in cs rs h) alone other)
 
 pub agree_set_rank : (cs : Conds) (rs : Rows) (t : Tid) (rank : ℕ) → WaitsAgree cs rs → WaitsAgree cs (set_rank rs t rank)
-agree_set_rank cs rs t rank h = agree_replaced (as_ranked rank) cs rs t.0 rs.next_arrival (seat_of rs t) refl h (λ s _. refl)
-
-stays_or_ready : (b : Bool) (p slice n : ℕ) (q : Place) → row_in q ≡ None → if_waiting (row_in (cond b (Stands row.Ready n) q)) ≡ None
-stays_or_ready true p slice n q e = refl
-stays_or_ready false p slice n q e = ap if_waiting e
-
-kept_place : (rs : Rows) (fifo : Bool) (rank : ℕ) (p : Place) → if_waiting (row_in (cond (gives_way rs fifo rank p) (Stands row.Ready rs.next_arrival) (a_turn_later fifo p))) ≡ if_waiting (row_in p)
-kept_place rs fifo rank (Runs p slice) = stays_or_ready (gives_way rs fifo rank (Runs p slice)) p slice rs.next_arrival (a_turn_later fifo (Runs p slice)) refl
-kept_place rs fifo rank (Stands r arrival) = refl
-
-pub agree_keeps : (cs : Conds) (rs : Rows) (t : Tid) (fifo : Bool) → WaitsAgree cs rs → WaitsAgree cs (keeps rs t fifo).rows
-agree_keeps cs rs t fifo h = agree_replaced (as_kept rs fifo) cs rs t.0 (keeps rs t fifo).rows.next_arrival (seat_of rs t) refl h (λ s _. kept_place rs fifo s.rank s.place)
-
--- ---- dispatch
-
-best_number : (rs : Rows) (r : RowId) (e : ℕ × Seat) → best_of (standing rs r) ≡ Some e → best rs r ≡ Some (thread e.0)
-best_number rs r e is = ap (option_map (λ (x : ℕ × Seat). thread x.0)) is
-
-if_free : (b : Bool) (o : Option (ℕ × Seat)) (e : ℕ × Seat) → cond b o None ≡ Some e → o ≡ Some e
-if_free true o e is = is
-if_free false o e is = absurd (cc)
-
-agree_processor : (cs : Conds) (rs : Rows) (p n : ℕ) (o : Option (ℕ × Seat)) → WaitsAgree cs rs → ((e : ℕ × Seat) → o ≡ Some e → waiting_at (get rs.seats e.0) ≡ None)
-    → WaitsAgree cs (record { seats = with_processor o rs.seats p; next_arrival = n })
-agree_processor cs rs p n None h here = agree_from cs (record { seats = rs.seats; next_arrival = n }) (λ q. agree_at cs rs q h)
-agree_processor cs rs p n (Some e) h here =
-    moved cs rs (record { seats = with_processor (Some e) rs.seats p; next_arrival = n }) e.0 (Some (record { rank = e.1.rank; place = Runs p 8 })) h (sym (here e refl)) (λ q. get_put rs.seats e.0 q _)
+agree_set_rank cs rs t rank h = agree_of cs (set_rank rs t rank) (rows.agree_set_rank wait_rows cs.waits rs t rank (agree_in cs rs h))
 
 pub agree_dispatch : (cs : Conds) (rs : Rows) (p : ℕ) → IsCanonical rs.seats → WaitsAgree cs rs → WaitsAgree cs (dispatch rs p).rows
-agree_dispatch cs rs p h agrees =
-    agree_processor cs rs p rs.next_arrival (next_for rs p) agrees (λ e is.
-    ap if_waiting (best_stands rs row.Ready (thread e.0) h (best_number rs row.Ready e (if_free (is_none (running rs p)) (best_of (standing rs row.Ready)) e is))))
+agree_dispatch cs rs p h agrees = agree_of cs (dispatch rs p).rows (rows.agree_dispatch wait_rows cs.waits rs p h (agree_in cs rs agrees))
 
--- ---- rows that become ready
-
-among_head : (t : Tid) (ts : List Tid) → is_among t (t ∷ ts) ≡ true
-among_head t ts = grind (arith, nat_tests)
-
-or_later : (a b : Bool) → b ≡ true → (a || b) ≡ true
-or_later true b e = refl
-or_later false b e = e
-
-among_later : (u t : Tid) (ts : List Tid) → is_among u ts ≡ true → is_among u (t ∷ ts) ≡ true
-among_later u t ts e = or_later (eqb t.0 u.0) (is_among u ts) e
-
-agree_all_ready : (rank : Tid → ℕ) (cs : Conds) (rs : Rows) (ts : List Tid) → WaitsAgree cs rs → ((t : Tid) → is_among t ts ≡ true → wait_of cs t ≡ None) → WaitsAgree cs (make_all_ready rank rs ts)
-unfolding make_all_ready
-agree_all_ready rank cs rs [] h alone = h
-agree_all_ready rank cs rs (t ∷ ts) h alone =
-    agree_all_ready rank cs (make_ready rank (take_out rs t).rows t) ts
-    (agree_put cs (take_out rs t).rows row.Ready t (rank t) (agree_take_out cs rs t h (alone t (among_head t ts))) (alone t (among_head t ts)) refl)
-    (λ u e. alone u (among_later u t ts e))
+pub agree_keeps : (cs : Conds) (rs : Rows) (t : Tid) (fifo : Bool) → WaitsAgree cs rs → WaitsAgree cs (keeps rs t fifo).rows
+agree_keeps cs rs t fifo h = agree_of cs (keeps rs t fifo).rows (rows.agree_keeps wait_rows cs.waits rs t fifo (agree_in cs rs h))
 
 pub agree_free_row : (rank : Tid → ℕ) (cs : Conds) (rs : Rows) (r : RowId) → IsCanonical rs.seats → WaitsAgree cs rs → if_waiting (Some r) ≡ None → WaitsAgree cs (free_row rank rs r).rows
-agree_free_row rank cs rs r h agrees other =
-    agree_all_ready rank cs rs (best_first rs r) agrees (λ t e. no_wait cs rs t agrees (ap if_waiting ((among_is rs r t h).0 e) ∙ other))
-
-pub agree_free_if : (b : Bool) (rank : Tid → ℕ) (cs : Conds) (rs : Rows) (r : RowId) → IsCanonical rs.seats → WaitsAgree cs rs → if_waiting (Some r) ≡ None → WaitsAgree cs (free_if b rank rs r).rows
-agree_free_if true rank cs rs r h agrees other =
-    agree_from cs (free_if true rank rs r).rows (λ q. agree_at cs (free_row rank rs r).rows q (agree_free_row rank cs rs r h agrees other))
-agree_free_if false rank cs rs r h agrees other = agree_from cs (free_if false rank rs r).rows (λ q. agree_at cs rs q agrees)
+agree_free_row rank cs rs r h agrees other = agree_of cs (free_row rank rs r).rows (rows.agree_free_row wait_rows rank cs.waits rs r h (agree_in cs rs agrees) other)

@@ -1,7 +1,7 @@
 pub mod EarliestLaws
 pub mod DueLaws
-pub mod AgreementLaws
-pub mod TakingLaws
-pub mod Crossing
 pub mod KeepLaws
+pub mod TakingLaws
+pub mod AgreementLaws
+pub mod Crossing
 pub mod CallLaws

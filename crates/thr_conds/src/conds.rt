@@ -1,14 +1,15 @@
 //! The conditions that are made, and who waits on them or for a time.
-ghost use Rattle.std.specs.Prelude.{◌≡◌, ◌+◌, ◌<◌, ◌^◌, true, Some, IfOk};
-ghost use Rattle.thr_parts.specs.Tables.{names, has, put};
+ghost use Rattle.std.specs.Prelude.{◌≡◌, true, Some, IfOk};
+ghost use Rattle.thr_parts.specs.Tables.{has, put};
 ghost use Rattle.thr_parts.specs.Replies.{is_blocks};
-ghost use Rattle.thr_parts.specs.Rows.{has_room, best_of, number_in};
+ghost use Rattle.thr_parts.specs.Rows.{best_of, number_in};
 ghost use Rattle.thr_parts.specs.Moves.{block_in, take_out_if};
-ghost use Rattle.thr_parts.specs.Mutexes.{owner};
-ghost use Rattle.thr_parts.specs.Locking.{is_last};
 ghost use Rattle.thr_parts.specs.Conditions.{no_conds, cond_init, cond_destroy, is_waited_on, waits_with, waits_otherwise, wait_reply, wait, timedwait, delay};
 ghost use Rattle.thr_parts.specs.Waking.{without_wait, mutex_with, signal, take_next, pull_out};
 ghost use Rattle.thr_parts.specs.Expiry.{earliest, due, expire};
+ghost use Rattle.thr_tables.specs.Ranges.{IsName};
+ghost use Rattle.thr_rows.specs.Room.{HasRoomToWait, HasArrivalLeft};
+ghost use Rattle.thr_locks.specs.Depth.{IsLockedOnceAtMost};
 ghost use Rattle.thr_conds.specs.Agreement.{waiting_row, WaitsAgree};
 
 use crate::{due, replies, waits};
@@ -56,7 +57,7 @@ impl Conds {
 
     /// A condition is made.
     pub fn init(&mut self, c: NameId) -> Reply
-        requires known { c.0 < names }
+        requires known { IsName c }
         ensures { record { reply = result; conds = self.new } ≡ cond_init self.old c }
     {
         match self.made.get(c) {
@@ -70,7 +71,7 @@ impl Conds {
 
     /// A condition is not made any more.
     pub fn destroy(&mut self, c: NameId) -> Reply
-        requires known { c.0 < names }
+        requires known { IsName c }
         ensures { record { reply = result; conds = self.new } ≡ cond_destroy self.old c }
     {
         match self.made.get(c) {
@@ -87,7 +88,7 @@ impl Conds {
 
     /// The condition is made.
     fn is_made(&self, c: NameId) -> bool
-        requires known { c.0 < names }
+        requires known { IsName c }
         ensures { result ≡ has self.now.made c.0 }
     {
         self.made.get(c).is_some()
@@ -130,8 +131,8 @@ impl Conds {
 
     /// The thread leaves its processor, if it runs, and begins to wait.
     fn begin(&mut self, wait: Wait, t: Tid, rank: u16, rows: &mut Rows)
-        requires room { has_room rows.old t ≡ true }
-        requires arrival { rows.old.next_arrival + 1 < 2 ^ 64 }
+        requires room { HasRoomToWait rows.old t }
+        requires arrival { HasArrivalLeft rows.old }
         requires agrees { WaitsAgree self.old rows.old }
         ensures conds { self.new ≡ record { made = self.old.made; waits = put self.old.waits t.0 wait } }
         ensures rows { rows.new ≡ block_in rows.old (waiting_row wait) t rank }
@@ -144,10 +145,10 @@ impl Conds {
 
     /// What a wait replies. Where it begins, its mutex is locked once.
     fn wait_reply(&self, c: NameId, m: NameId, t: Tid, locks: &Locks) -> Reply
-        requires c_known { c.0 < names }
-        requires m_known { m.0 < names }
+        requires c_known { IsName c }
+        requires m_known { IsName m }
         ensures reply { result ≡ wait_reply self.now locks.now c m t }
-        ensures once { is_blocks result ≡ true → is_last (owner locks.now (Some m)) ≡ true }
+        ensures once { is_blocks result ≡ true → IsLockedOnceAtMost locks.now (Some m) }
     {
         if !self.is_made(c) {
             return Reply::Einval;
@@ -178,10 +179,10 @@ impl Conds {
         locks: &mut Locks,
         rows: &mut Rows,
     ) -> (Reply, Option<Tid>)
-        requires c_known { c.0 < names }
-        requires m_known { m.0 < names }
-        requires room { has_room rows.old t ≡ true }
-        requires arrival { rows.old.next_arrival + 1 < 2 ^ 64 }
+        requires c_known { IsName c }
+        requires m_known { IsName m }
+        requires room { HasRoomToWait rows.old t }
+        requires arrival { HasArrivalLeft rows.old }
         requires agrees { WaitsAgree self.old rows.old }
         ensures { record { reply = result.0; conds = self.new; locks = locks.new; rows = rows.new; given = result.1 } ≡ wait self.old locks.old rows.old c m t rank }
     {
@@ -205,10 +206,10 @@ impl Conds {
         locks: &mut Locks,
         rows: &mut Rows,
     ) -> (Reply, Option<Tid>)
-        requires c_known { c.0 < names }
-        requires m_known { m.0 < names }
-        requires room { has_room rows.old t ≡ true }
-        requires arrival { rows.old.next_arrival + 1 < 2 ^ 64 }
+        requires c_known { IsName c }
+        requires m_known { IsName m }
+        requires room { HasRoomToWait rows.old t }
+        requires arrival { HasArrivalLeft rows.old }
         requires agrees { WaitsAgree self.old rows.old }
         ensures { record { reply = result.0; conds = self.new; locks = locks.new; rows = rows.new; given = result.1 } ≡ timedwait self.old locks.old rows.old c m until now t rank }
     {
@@ -222,8 +223,8 @@ impl Conds {
 
     /// A thread waits for so many ticks.
     pub fn delay(&mut self, ticks: i64, now: i64, t: Tid, rank: u16, rows: &mut Rows) -> Reply
-        requires room { has_room rows.old t ≡ true }
-        requires arrival { rows.old.next_arrival + 1 < 2 ^ 64 }
+        requires room { HasRoomToWait rows.old t }
+        requires arrival { HasArrivalLeft rows.old }
         requires agrees { WaitsAgree self.old rows.old }
         ensures { record { reply = result; conds = self.new; rows = rows.new } ≡ delay self.old rows.old ticks now t rank }
     {
@@ -252,7 +253,7 @@ impl Conds {
 
     /// A signal: the best waiter leaves the condition. With it comes its mutex.
     pub fn signal(&mut self, c: NameId, rows: &mut Rows) -> (Reply, Option<(Tid, NameId)>)
-        requires known { c.0 < names }
+        requires known { IsName c }
         ensures { record { reply = result.0; conds = self.new; rows = rows.new; waiter = result.1 } ≡ signal self.old rows.old c }
     {
         if !self.is_made(c) {

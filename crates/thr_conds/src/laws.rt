@@ -1,12 +1,12 @@
 //! The laws on conditions and rows: each is a function that does nothing and whose contract is the law.
 
-ghost use Rattle.std.specs.Prelude.{◌≡◌, ℕ, ℤ, Bool, [], List, Option, Some, None};
+ghost use Rattle.std.specs.Prelude.{◌≡◌, ◌≤◌, ℕ, ℤ, Bool, [], List, length, Option, Some, None};
 ghost use Rattle.thr_values.specs.declared.number.Tid.{Tid};
 ghost use Rattle.thr_values.specs.declared.number.NameId.{NameId};
 ghost use Rattle.thr_parts.specs.declared.row.RowId.{RowId};
 ghost use Rattle.thr_parts.specs.declared.row.RowId.TheVariants as row;
 ghost use Rattle.thr_parts.specs.Tables.{IsCanonical, keep_if};
-ghost use Rattle.thr_parts.specs.Rows.{Rows, no_rows, row_of, best, best_first};
+ghost use Rattle.thr_parts.specs.Rows.{Rows, no_rows, row_of, best, best_first, most};
 ghost use Rattle.thr_parts.specs.Moves.{put_in_row, take_out, take_out_if, leave, block_in, set_rank, free_row};
 ghost use Rattle.thr_parts.specs.Dispatch.{dispatch, keeps};
 ghost use Rattle.thr_parts.specs.Mutexes.{Locks};
@@ -19,6 +19,7 @@ ghost use Rattle.thr_parts.specs.OnceBlocks.{enter, undone};
 ghost use Rattle.thr_parts.specs.Pipes.{Pipes, read, write};
 ghost use Rattle.thr_parts.specs.Closing.{close_out};
 ghost use Rattle.thr_parts.specs.CancelledWaits.{cancel_wait};
+ghost use Rattle.thr_rows.specs.Room.{HasRoom};
 ghost use Rattle.thr_conds.specs.Agreement.{if_waiting, WaitsAgree};
 ghost use Rattle.thr_conds.specs.Taking.{taken_then};
 
@@ -48,12 +49,14 @@ pub fn times_end_one_wait_at_a_time()
 {}
 
 /// Conditions and rows agree on who waits at the opening, and go on to agree where threads come and go that don't wait on a
-/// condition or for a time. No thread waits so that runs, stands nowhere or stands in another row.
-#[tactic(auto, using(crate::proofs::KeepLaws::agree_opening, crate::proofs::KeepLaws::no_wait, crate::proofs::KeepLaws::agree_put, crate::proofs::KeepLaws::agree_take_out, crate::proofs::KeepLaws::agree_take_best, crate::proofs::KeepLaws::agree_leave, crate::proofs::KeepLaws::agree_block_in, crate::proofs::KeepLaws::agree_set_rank, crate::proofs::KeepLaws::agree_dispatch, crate::proofs::KeepLaws::agree_keeps, crate::proofs::KeepLaws::agree_free_row))]
+/// condition or for a time. No thread waits so that runs, stands nowhere or stands in another row, such as the best of that.
+#[tactic(auto, using(crate::proofs::KeepLaws::agree_opening, crate::proofs::KeepLaws::no_wait, crate::proofs::KeepLaws::best_waits_not, crate::proofs::KeepLaws::agree_put, crate::proofs::KeepLaws::agree_take_out, crate::proofs::KeepLaws::agree_take_best, crate::proofs::KeepLaws::agree_leave, crate::proofs::KeepLaws::agree_block_in, crate::proofs::KeepLaws::agree_set_rank, crate::proofs::KeepLaws::agree_dispatch, crate::proofs::KeepLaws::agree_keeps, crate::proofs::KeepLaws::agree_free_row))]
 pub fn rows_go_on_to_agree_on_waits()
     ensures opening { WaitsAgree no_conds no_rows }
     ensures elsewhere { (cs : Conds) (rs : Rows) (t : Tid) → WaitsAgree cs rs → if_waiting (row_of rs t) ≡ None
         → wait_of cs t ≡ None }
+    ensures best { (cs : Conds) (rs : Rows) (r : RowId) (t : Tid) → IsCanonical rs.seats → WaitsAgree cs rs
+        → if_waiting (Some r) ≡ None → best rs r ≡ Some t → wait_of cs t ≡ None }
     ensures put_in_row { (cs : Conds) (rs : Rows) (r : RowId) (t : Tid) (rank : ℕ) → WaitsAgree cs rs
         → wait_of cs t ≡ None → if_waiting (Some r) ≡ None → WaitsAgree cs (put_in_row rs r t rank) }
     ensures take_out { (cs : Conds) (rs : Rows) (t : Tid) → WaitsAgree cs rs → wait_of cs t ≡ None
@@ -106,6 +109,17 @@ pub fn calls_on_conditions_keep_waits_in_agreement()
     ensures pulled_out { (cs : Conds) (rs : Rows) (t : Tid) → wait_of (pull_out cs rs t).conds t ≡ None }
     ensures expired { (cs : Conds) (rs : Rows) (now : ℤ) (t : Tid) (m : Option NameId)
         → (expire cs rs now).who ≡ Some (t, m) → wait_of (expire cs rs now).conds t ≡ None }
+{}
+
+/// Where a thread has left its wait there is room for it in another row. Signals and broadcasts have a law of `thr_rows`.
+#[tactic(auto, using(crate::proofs::AgreementLaws::room_of_pull_out, crate::proofs::AgreementLaws::room_of_expire))]
+pub fn threads_that_leave_their_waits_give_room()
+    ensures pull_out { (cs : Conds) (rs : Rows) (t : Tid) (m : Option NameId) → IsCanonical rs.seats
+        → length rs.seats ≤ most → WaitsAgree cs rs → (pull_out cs rs t).left ≡ Some m
+        → HasRoom (pull_out cs rs t).rows }
+    ensures expire { (cs : Conds) (rs : Rows) (now : ℤ) (t : Tid) (m : Option NameId) → IsCanonical rs.seats
+        → length rs.seats ≤ most → WaitsAgree cs rs → (expire cs rs now).who ≡ Some (t, m)
+        → HasRoom (expire cs rs now).rows }
 {}
 
 /// They go on to agree after each call on other objects, by a thread that doesn't wait.

@@ -1,10 +1,13 @@
 //! Who owns each mutex and the global lock, and who is handed them.
-ghost use Rattle.std.specs.Prelude.{◌≡◌, ◌+◌, ◌<◌, ◌^◌, true, Some, length, IfOk, IfSome};
-ghost use Rattle.thr_parts.specs.Tables.{names, has};
-ghost use Rattle.thr_parts.specs.Rows.{best, most, has_room};
+ghost use Rattle.std.specs.Prelude.{◌≡◌, Some, IfOk};
+ghost use Rattle.thr_parts.specs.Tables.{has};
+ghost use Rattle.thr_parts.specs.Rows.{best};
 ghost use Rattle.thr_parts.specs.Moves.{take_out_if};
 ghost use Rattle.thr_parts.specs.Mutexes.{no_locks, mutexattr_create, mutexattr_delete, setkind, kind_at, init, mutex_at, with_mutex, waiters_row, owner, destroy};
-ghost use Rattle.thr_parts.specs.Locking.{lock, trylock, unlock, is_last, give_up, regain};
+ghost use Rattle.thr_parts.specs.Locking.{lock, trylock, unlock, give_up, regain};
+ghost use Rattle.thr_tables.specs.Ranges.{IsName, IsNameIfThere};
+ghost use Rattle.thr_rows.specs.Room.{HasRoom, HasRoomToWait, HasArrivalLeft};
+ghost use Rattle.thr_locks.specs.Depth.{HasDepthLeft, IsLockedOnceAtMost};
 ghost use Rattle.thr_locks.specs.Handing.{handed};
 
 use crate::held::{held_reply, one_less, owned_by, taken, waiters_row};
@@ -52,7 +55,7 @@ impl Locks {
 
     /// A cell is made, of the kind fast.
     pub fn attr_create(&mut self, a: NameId) -> Reply
-        requires known { a.0 < names }
+        requires known { IsName a }
         ensures { record { reply = result; locks = self.new } ≡ mutexattr_create self.old a }
     {
         match self.kinds.get(a) {
@@ -66,7 +69,7 @@ impl Locks {
 
     /// A cell is not made any more.
     pub fn attr_delete(&mut self, a: NameId) -> Reply
-        requires known { a.0 < names }
+        requires known { IsName a }
         ensures { record { reply = result; locks = self.new } ≡ mutexattr_delete self.old a }
     {
         match self.kinds.get(a) {
@@ -80,7 +83,7 @@ impl Locks {
 
     /// A cell gets a kind.
     pub fn setkind(&mut self, a: NameId, kind: Kind) -> Reply
-        requires known { a.0 < names }
+        requires known { IsName a }
         ensures { record { reply = result; locks = self.new } ≡ setkind self.old a kind }
     {
         match self.kinds.get(a) {
@@ -96,7 +99,7 @@ impl Locks {
 
     /// The kind by the cell of a name that is there, and else by default.
     fn kind_at(&self, a: Option<NameId>) -> Option<Kind>
-        requires known { IfSome a (λ n. n.0 < names) }
+        requires known { IsNameIfThere a }
         ensures { result ≡ kind_at self.now a }
     {
         match a {
@@ -107,8 +110,8 @@ impl Locks {
 
     /// A mutex is made, of its cell's kind and free.
     pub fn init(&mut self, m: NameId, a: Option<NameId>) -> Reply
-        requires m_known { m.0 < names }
-        requires a_known { IfSome a (λ n. n.0 < names) }
+        requires m_known { IsName m }
+        requires a_known { IsNameIfThere a }
         ensures { record { reply = result; locks = self.new } ≡ init self.old m a }
     {
         match self.kind_at(a) {
@@ -125,7 +128,7 @@ impl Locks {
 
     /// The mutex, or else the global lock.
     fn at(&self, m: Option<NameId>) -> Option<Mutex>
-        requires known { IfSome m (λ n. n.0 < names) }
+        requires known { IsNameIfThere m }
         ensures { result ≡ mutex_at self.now m }
     {
         match m {
@@ -139,7 +142,7 @@ impl Locks {
 
     /// The mutex, or else the global lock, is so from now on.
     fn set(&mut self, m: Option<NameId>, mutex: Mutex)
-        requires known { IfSome m (λ n. n.0 < names) }
+        requires known { IsNameIfThere m }
         ensures { self.new ≡ with_mutex self.old m (Some mutex) }
     {
         match m {
@@ -150,7 +153,7 @@ impl Locks {
 
     /// The mutex is made, which a wait on a condition asks.
     pub fn is_made(&self, m: NameId) -> bool
-        requires known { m.0 < names }
+        requires known { IsName m }
         ensures { result ≡ has self.now.mutexes m.0 }
     {
         self.mutexes.get(m).is_some()
@@ -158,7 +161,7 @@ impl Locks {
 
     /// Who owns it, and how often it is locked.
     pub fn owner(&self, m: Option<NameId>) -> Option<Held>
-        requires known { IfSome m (λ n. n.0 < names) }
+        requires known { IsNameIfThere m }
         ensures { result ≡ owner self.now m }
     {
         match self.at(m) {
@@ -169,7 +172,7 @@ impl Locks {
 
     /// A mutex is not made any more. Whether a thread waits on a condition with it is told.
     pub fn destroy(&mut self, m: NameId, waits_with: bool, rows: &Rows) -> Reply
-        requires known { m.0 < names }
+        requires known { IsName m }
         ensures { record { reply = result; locks = self.new } ≡ destroy self.old rows.now m waits_with }
     {
         match self.mutexes.get(m) {
@@ -194,10 +197,10 @@ impl Locks {
 
     /// A thread locks a mutex or the global lock, or waits for it.
     pub fn lock(&mut self, m: Option<NameId>, t: Tid, rank: u16, rows: &mut Rows) -> Reply
-        requires known { IfSome m (λ n. n.0 < names) }
-        requires room { has_room rows.old t ≡ true }
-        requires arrival { rows.old.next_arrival + 1 < 2 ^ 64 }
-        requires depth { IfSome (owner self.old m) (λ h. h.depth + 1 < 2 ^ 64) }
+        requires known { IsNameIfThere m }
+        requires room { HasRoomToWait rows.old t }
+        requires arrival { HasArrivalLeft rows.old }
+        requires depth { HasDepthLeft self.old m }
         ensures { record { reply = result; locks = self.new; rows = rows.new } ≡ lock self.old rows.old m t rank }
     {
         match self.at(m) {
@@ -220,8 +223,8 @@ impl Locks {
 
     /// A thread locks a mutex where a lock would reply `ok`.
     pub fn trylock(&mut self, m: NameId, t: Tid) -> Reply
-        requires known { m.0 < names }
-        requires depth { IfSome (owner self.old (Some m)) (λ h. h.depth + 1 < 2 ^ 64) }
+        requires known { IsName m }
+        requires depth { HasDepthLeft self.old (Some m) }
         ensures { record { reply = result; locks = self.new } ≡ trylock self.old m t }
     {
         match self.at(Some(m)) {
@@ -243,7 +246,7 @@ impl Locks {
     /// A thread unlocks a mutex or the global lock. Where it gives that up the best that waits for it has it at once: the
     /// second part of the answer.
     pub fn unlock(&mut self, m: Option<NameId>, t: Tid, rows: &mut Rows) -> (Reply, Option<Tid>)
-        requires known { IfSome m (λ n. n.0 < names) }
+        requires known { IsNameIfThere m }
         ensures { record { reply = result.0; locks = self.new; rows = rows.new; given = result.1 } ≡ unlock self.old rows.old m t }
     {
         match self.at(m) {
@@ -282,7 +285,7 @@ impl Locks {
 
     /// The best that waits for it has it, or nobody.
     fn hand_over(&mut self, m: Option<NameId>, kind: Kind, rows: &mut Rows) -> Option<Tid>
-        requires known { IfSome m (λ n. n.0 < names) }
+        requires known { IsNameIfThere m }
         ensures given { result ≡ best rows.old (waiters_row m) }
         ensures locks { self.new ≡ with_mutex self.old m (Some (handed kind result)) }
         ensures rows { rows.new ≡ take_out_if rows.old result }
@@ -296,8 +299,8 @@ impl Locks {
     /// A mutex, which is locked once at most, is given up: the best that waits for it has it at once, and is the answer; it is
     /// free where nobody does. Waits on conditions give their mutexes up so.
     pub fn give_up(&mut self, m: Option<NameId>, rows: &mut Rows) -> Option<Tid>
-        requires known { IfSome m (λ n. n.0 < names) }
-        requires once { is_last (owner self.old m) ≡ true }
+        requires known { IsNameIfThere m }
+        requires once { IsLockedOnceAtMost self.old m }
         ensures { record { locks = self.new; rows = rows.new; given = result } ≡ give_up self.old rows.old m }
     {
         match self.at(m) {
@@ -311,9 +314,9 @@ impl Locks {
     /// The thread, which stands nowhere, gets its mutex and is ready where that is free, and else waits for it. The answer is
     /// whether it has the mutex.
     pub fn regain(&mut self, m: NameId, t: Tid, rank: u16, rows: &mut Rows) -> bool
-        requires known { m.0 < names }
-        requires room { length rows.old.seats < most }
-        requires arrival { rows.old.next_arrival + 1 < 2 ^ 64 }
+        requires known { IsName m }
+        requires room { HasRoom rows.old }
+        requires arrival { HasArrivalLeft rows.old }
         ensures { record { locks = self.new; rows = rows.new; gets = result } ≡ regain self.old rows.old m t rank }
     {
         match self.at(Some(m)) {

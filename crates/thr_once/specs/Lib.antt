@@ -1,2 +1,3 @@
 pub mod Values
 pub mod Views
+pub mod Room

@@ -1,9 +1,10 @@
 //! The calls on once blocks and keys.
-ghost use Rattle.std.specs.Prelude.{◌≡◌, ◌+◌, ◌<◌, ◌≤◌, ◌^◌, true, IfOk, OnOk, OnErr};
-ghost use Rattle.thr_parts.specs.Tables.{names};
-ghost use Rattle.thr_parts.specs.Rows.{has_room};
+ghost use Rattle.std.specs.Prelude.{◌≡◌, ◌+◌, ◌≤◌, IfOk, OnOk, OnErr};
 ghost use Rattle.thr_parts.specs.Keys.{no_onces, keycreate, setspecific, getspecific, next_destructor};
 ghost use Rattle.thr_parts.specs.OnceBlocks.{enter, done, undone};
+ghost use Rattle.thr_tables.specs.Ranges.{IsName};
+ghost use Rattle.thr_rows.specs.Room.{HasRoomToWait, HasArrivalLeft};
+ghost use Rattle.thr_once.specs.Room.{HasRoomForValue};
 
 use crate::keys::Keys;
 use std::alloc::Global;
@@ -54,9 +55,9 @@ impl Onces {
 
     /// A thread enters a once block. The second part of the answer says that it is to run the routine.
     pub fn enter(&mut self, o: NameId, t: Tid, rank: u16, rows: &mut Rows) -> (Reply, bool)
-        requires known { o.0 < names }
-        requires place { has_room rows.old t ≡ true }
-        requires arrival { rows.old.next_arrival + 1 < 2 ^ 64 }
+        requires known { IsName o }
+        requires place { HasRoomToWait rows.old t }
+        requires arrival { HasArrivalLeft rows.old }
         ensures call { record { reply = result.0; onces = self.new.state; rows = rows.new; runs = result.1 } ≡ enter self.old.state rows.old o t rank }
         ensures room { self.new.room ≡ self.old.room }
     {
@@ -80,7 +81,7 @@ impl Onces {
 
     /// The routine of a block that is being run has ended. The layer above takes the waiters out of the block's row.
     pub fn done(&mut self, o: NameId)
-        requires known { o.0 < names }
+        requires known { IsName o }
         ensures call { self.new.state ≡ done self.old.state o }
         ensures room { self.new.room ≡ self.old.room }
     {
@@ -90,7 +91,7 @@ impl Onces {
     /// The routine of a block that is being run was unwound. The best waiter, taken out of its row, holds the block from now
     /// on; without one the block is as not run.
     pub fn undone(&mut self, o: NameId, rows: &mut Rows) -> Option<Tid>
-        requires known { o.0 < names }
+        requires known { IsName o }
         ensures call { record { onces = self.new.state; rows = rows.new; runner = result } ≡ undone self.old.state rows.old o }
         ensures room { self.new.room ≡ self.old.room }
     {
@@ -111,7 +112,7 @@ impl Onces {
 
     /// A key is made, with the destructor that is there.
     pub fn keycreate(&mut self, k: NameId, destructor: Option<NameId>) -> Reply
-        requires known { k.0 < names }
+        requires known { IsName k }
         ensures call { record { reply = result; onces = self.new.state } ≡ keycreate self.old.state k destructor }
         ensures room { self.new.room ≡ self.old.room }
     {
@@ -124,8 +125,8 @@ impl Onces {
 
     /// A thread gives a key its value.
     pub fn setspecific(&mut self, k: NameId, t: Tid, value: i64) -> Reply
-        requires known { k.0 < names }
-        requires place { 1 ≤ self.old.room }
+        requires known { IsName k }
+        requires place { HasRoomForValue self.old }
         ensures call { record { reply = result; onces = self.new.state } ≡ setspecific self.old.state k t value }
         ensures room { self.old.room ≤ self.new.room + 1 }
     {
@@ -138,7 +139,7 @@ impl Onces {
 
     /// A thread asks for its value of a key.
     pub fn getspecific(&self, k: NameId, t: Tid) -> Reply
-        requires known { k.0 < names }
+        requires known { IsName k }
         ensures { result ≡ getspecific self.now.state k t }
     {
         match self.keys.get(k, t) {

@@ -19,7 +19,7 @@ use Rattle.thr_parts.proofs.EntryLaws.{pass, get_filter}
 use Rattle.thr_parts.proofs.PartLaws.{canonical_free_row}
 use Rattle.thr_parts.proofs.StandingLaws.{among_is}
 use Rattle.thr_pipes.specs.Agreement.{writer_row, if_writing, WritersAgree}
-use Rattle.thr_pipes.proofs.KeepLaws.{agree_at, agree_from, agree_free_row}
+use Rattle.thr_pipes.proofs.KeepLaws.{agree_free_row}
 use Rattle.thr_pipes.proofs.WriterLaws.{elsewhere_is}
 
 -- The row in which a seat that is there keeps a thread that waits.
@@ -102,20 +102,21 @@ if_writer (Some row.Time) p e = absurd (cc)
 freed_at : (ps : Pipes) (rs : Rows) (p : NameId) (q : ℕ) (b : Bool) → is_among (thread q) (best_first rs (row.Writer p)) ≡ b → IsCanonical rs.seats → WritersAgree ps rs
     → option_map writer_row (pass (writes_elsewhere p) q (get ps.writing q)) ≡ cond b None (writing_at (get rs.seats q))
 freed_at ps rs p q true among h agrees =
-    freed_by (get ps.writing q) p q (agree_at ps rs q agrees ∙ ap if_writing ((among_is rs (row.Writer p) (thread q) h).0 among))
+    freed_by (get ps.writing q) p q (agrees.same (thread q) ∙ ap if_writing ((among_is rs (row.Writer p) (thread q) h).0 among))
 freed_at ps rs p q false among h agrees =
-    kept_by (get ps.writing q) p q (writing_at (get rs.seats q)) (agree_at ps rs q agrees) (λ e.
+    kept_by (get ps.writing q) p q (writing_at (get rs.seats q)) (agrees.same (thread q)) (λ e.
     false≢true (sym among ∙ (among_is rs (row.Writer p) (thread q) h).1 (if_writer (row_of rs (thread q)) p e)))
 
 -- Who waits at the pipe no more, and whose row has become ready.
 freed : (rank : Tid → ℕ) (ps : Pipes) (m : Table Pipe) (rs : Rows) (p : NameId) → IsCanonical rs.seats → IsCanonical ps.writing → WritersAgree ps rs
     → WritersAgree (record { pipes = m; writing = writing_elsewhere ps.writing p }) (free_row rank rs (row.Writer p)).rows
 freed rank ps m rs p h rises agrees =
-    agree_from (record { pipes = m; writing = writing_elsewhere ps.writing p }) (free_row rank rs (row.Writer p)).rows (λ q.
-    ap (λ (w : Table Writing). option_map writer_row (get w q)) (elsewhere_is ps.writing p)
-    ∙ ap (option_map writer_row) (get_filter (writes_elsewhere p) q ps.writing rises)
-    ∙ freed_at ps rs p q (is_among (thread q) (best_first rs (row.Writer p))) refl h agrees
-    ∙ sym (ready_at rank rs (best_first rs (row.Writer p)) q))
+    record {
+      same = λ t. ap (λ (w : Table Writing). option_map writer_row (get w t.0)) (elsewhere_is ps.writing p)
+          ∙ ap (option_map writer_row) (get_filter (writes_elsewhere p) t.0 ps.writing rises)
+          ∙ freed_at ps rs p t.0 (is_among (thread t.0) (best_first rs (row.Writer p))) refl h agrees
+          ∙ sym (ready_at rank rs (best_first rs (row.Writer p)) t.0);
+    }
 
 -- ---- pipes that are closed
 
@@ -123,11 +124,9 @@ closed_if : (b : Bool) (rank : Tid → ℕ) (ps : Pipes) (m : Table Pipe) (rs : 
     → WritersAgree (record { pipes = m; writing = cond b (writing_elsewhere ps.writing p) ps.writing }) (free_if b rank (free_if b rank rs (row.Reader p)).rows (row.Writer p)).rows
 closed_if true rank ps m rs p h rises agrees =
     let readers : Rows = (free_row rank rs (row.Reader p)).rows in
-    agree_from (record { pipes = m; writing = writing_elsewhere ps.writing p }) (free_if true rank (free_if true rank rs (row.Reader p)).rows (row.Writer p)).rows (λ q.
-    agree_at (record { pipes = m; writing = writing_elsewhere ps.writing p }) (free_row rank readers (row.Writer p)).rows q
-    (freed rank ps m readers p (canonical_free_row rank rs (row.Reader p) h) rises (agree_free_row rank ps rs (row.Reader p) h agrees refl)))
-closed_if false rank ps m rs p h rises agrees =
-    agree_from (record { pipes = m; writing = ps.writing }) (free_if false rank (free_if false rank rs (row.Reader p)).rows (row.Writer p)).rows (λ q. agree_at ps rs q agrees)
+    let after : WritersAgree (record { pipes = m; writing = writing_elsewhere ps.writing p }) (free_row rank readers (row.Writer p)).rows =
+    freed rank ps m readers p (canonical_free_row rank rs (row.Reader p) h) rises (agree_free_row rank ps rs (row.Reader p) h agrees refl) in record { same = after.same }
+closed_if false rank ps m rs p h rises agrees = record { same = agrees.same }
 
 pub agree_close_out : (rank : Tid → ℕ) (ps : Pipes) (rs : Rows) (p : NameId) → IsCanonical rs.seats → IsCanonical ps.writing → WritersAgree ps rs
     → WritersAgree (close_out rank ps rs p).pipes (close_out rank ps rs p).rows

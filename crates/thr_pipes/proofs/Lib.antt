@@ -7,3 +7,4 @@ pub mod KeepLaws
 pub mod PipeLaws
 pub mod WriterLaws
 pub mod Crossing
+pub mod OtherCallLaws

@@ -1,12 +1,13 @@
 //! The calls on pipes.
-ghost use Rattle.std.specs.Prelude.{◌≡◌, ◌∷◌, [], ◌++◌, ◌+◌, ◌<◌, ◌^◌, true, Some, IfOk};
-ghost use Rattle.thr_parts.specs.Tables.{names, put};
+ghost use Rattle.std.specs.Prelude.{◌≡◌, ◌∷◌, [], ◌++◌, true, IfOk};
+ghost use Rattle.thr_parts.specs.Tables.{put};
 ghost use Rattle.thr_parts.specs.Replies.{is_value};
-ghost use Rattle.thr_parts.specs.Rows.{has_room as has_seat};
 ghost use Rattle.thr_parts.specs.Moves.{block_in, take_out_if};
 ghost use Rattle.thr_parts.specs.declared.row.RowId.TheVariants as row;
 ghost use Rattle.thr_parts.specs.Pipes.{first_pipes, pipe_at, has_room, with_items, behind, item_of, writing_without, read_reply, read, write};
 ghost use Rattle.thr_parts.specs.Closing.{as_closed, close, pull_out};
+ghost use Rattle.thr_tables.specs.Ranges.{IsName};
+ghost use Rattle.thr_rows.specs.Room.{HasRoomToWait, HasArrivalLeft};
 ghost use Rattle.thr_pipes.specs.Agreement.{WritersAgree};
 ghost use Rattle.thr_pipes.specs.Opening.{FitTables};
 ghost use Rattle.thr_pipes.specs.Entering.{entering};
@@ -55,7 +56,7 @@ impl Pipes {
 
     /// The pipe is open.
     fn is_open(&self, p: NameId) -> bool
-        requires known { p.0 < names }
+        requires known { IsName p }
         ensures { result ≡ (pipe_at self.now p).is_open }
     {
         match self.pipes.lend(p) {
@@ -66,7 +67,7 @@ impl Pipes {
 
     /// The pipe isn't full.
     fn has_room(&self, p: NameId) -> bool
-        requires known { p.0 < names }
+        requires known { IsName p }
         ensures { result ≡ has_room (pipe_at self.now p) }
     {
         match self.pipes.lend(p) {
@@ -77,7 +78,7 @@ impl Pipes {
 
     /// What reading the pipe replies.
     fn read_reply(&self, p: NameId) -> Reply
-        requires known { p.0 < names }
+        requires known { IsName p }
         ensures { result ≡ read_reply (pipe_at self.now p).items (pipe_at self.now p).is_open }
     {
         match self.pipes.lend(p) {
@@ -88,7 +89,7 @@ impl Pipes {
 
     /// The item enters the pipe, behind all others.
     fn enter(&mut self, p: NameId, item: i64)
-        requires known { p.0 < names }
+        requires known { IsName p }
         requires room { has_room (pipe_at self.old p) ≡ true }
         ensures { self.new ≡ record { pipes = put self.old.pipes p.0 (with_items (pipe_at self.old p) ((pipe_at self.old p).items ++ item ∷ [])); writing = self.old.writing } }
     {
@@ -104,7 +105,7 @@ impl Pipes {
 
     /// The front item leaves the pipe, and then the item that is there enters.
     fn pass(&mut self, p: NameId, item: Option<i64>)
-        requires known { p.0 < names }
+        requires known { IsName p }
         requires front { is_value (read_reply (pipe_at self.old p).items (pipe_at self.old p).is_open) ≡ true }
         ensures { self.new ≡ record { pipes = put self.old.pipes p.0 (with_items (pipe_at self.old p) (behind (pipe_at self.old p).items ++ entering item)); writing = self.old.writing } }
     {
@@ -120,7 +121,7 @@ impl Pipes {
 
     /// The open pipe takes no more items.
     fn shut(&mut self, p: NameId)
-        requires known { p.0 < names }
+        requires known { IsName p }
         requires open { (pipe_at self.old p).is_open ≡ true }
         ensures { self.new ≡ record { pipes = put self.old.pipes p.0 (as_closed (pipe_at self.old p)); writing = self.old.writing } }
     {
@@ -165,8 +166,8 @@ impl Pipes {
 
     /// The thread leaves its processor, if it runs, and begins to wait with its item.
     fn wait(&mut self, p: NameId, item: i64, t: Tid, rank: u16, rows: &mut Rows)
-        requires place { has_seat rows.old t ≡ true }
-        requires arrival { rows.old.next_arrival + 1 < 2 ^ 64 }
+        requires place { HasRoomToWait rows.old t }
+        requires arrival { HasArrivalLeft rows.old }
         requires agrees { WritersAgree self.old rows.old }
         ensures pipes { self.new ≡ record { pipes = self.old.pipes; writing = put self.old.writing t.0 (record { pipe = p; item = item }) } }
         ensures rows { rows.new ≡ block_in rows.old (row.Writer p) t rank }
@@ -182,9 +183,9 @@ impl Pipes {
     /// A thread takes the front item; then the item of the best waiting writer enters, which is the second part of the answer
     /// and has left its row.
     pub fn read(&mut self, p: NameId, t: Tid, rank: u16, rows: &mut Rows) -> (Reply, Option<Tid>)
-        requires known { p.0 < names }
-        requires place { has_seat rows.old t ≡ true }
-        requires arrival { rows.old.next_arrival + 1 < 2 ^ 64 }
+        requires known { IsName p }
+        requires place { HasRoomToWait rows.old t }
+        requires arrival { HasArrivalLeft rows.old }
         ensures { record { reply = result.0; pipes = self.new; rows = rows.new; relieved = result.1 } ≡ read self.old rows.old p t rank }
     {
         let said = self.read_reply(p);
@@ -212,9 +213,9 @@ impl Pipes {
         rank: u16,
         rows: &mut Rows,
     ) -> (Reply, Option<Tid>)
-        requires known { p.0 < names }
-        requires place { has_seat rows.old t ≡ true }
-        requires arrival { rows.old.next_arrival + 1 < 2 ^ 64 }
+        requires known { IsName p }
+        requires place { HasRoomToWait rows.old t }
+        requires arrival { HasArrivalLeft rows.old }
         requires agrees { WritersAgree self.old rows.old }
         ensures { record { reply = result.0; pipes = self.new; rows = rows.new; reader = result.1 } ≡ write self.old rows.old p value t rank }
     {
@@ -240,7 +241,7 @@ impl Pipes {
     /// A pipe takes no more items. It keeps those in it, and those of its waiting writers are dropped. The layer above takes
     /// its readers and its writers out of their rows.
     pub fn close(&mut self, p: NameId) -> Reply
-        requires known { p.0 < names }
+        requires known { IsName p }
         ensures { record { reply = result; pipes = self.new } ≡ close self.old p }
     {
         if !self.is_open(p) {

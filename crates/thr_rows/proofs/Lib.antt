@@ -1,2 +1,5 @@
 pub mod BestLaws
+pub mod AgreementLaws
+pub mod AgreedCalls
+pub mod RoomLaws
 pub mod Crossing

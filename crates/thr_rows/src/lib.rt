@@ -1,6 +1,7 @@
 //! Rows and processors: where each thread stands, which is the best of a row, and who runs.
 #![tactic(auto)]
 
+pub mod laws;
 mod places;
 mod rows;
 mod seats;

@@ -1,10 +1,11 @@
 //! Threads in rows and on processors.
-ghost use Rattle.std.specs.Prelude.{◌≡◌, ◌+◌, ◌<◌, ◌≤◌, ◌^◌, length, true, is_some, IfOk, IfSome};
+ghost use Rattle.std.specs.Prelude.{◌≡◌, ◌≤◌, length, true, is_some, IfOk, IfSome};
 ghost use Rattle.thr_parts.specs.Tables.{has, IsCanonical};
-ghost use Rattle.thr_parts.specs.Rows.{no_rows, seat_of, best, best_of, standing, row_of, before, most, has_room};
+ghost use Rattle.thr_parts.specs.Rows.{no_rows, seat_of, best, best_of, standing, row_of, before, most};
 ghost use Rattle.thr_parts.specs.declared.row.RowId.TheVariants as row;
 ghost use Rattle.thr_parts.specs.Moves.{put_in_row, take_out, leave, block_in, set_rank};
 ghost use Rattle.thr_parts.specs.Dispatch.{running, next_for, dispatch, gives_way, keeps};
+ghost use Rattle.thr_rows.specs.Room.{HasRoom, HasRoomToWait, HasArrivalLeft};
 
 use crate::places;
 use crate::seats::{self, Entry};
@@ -112,8 +113,8 @@ impl Rows {
     /// The thread stands in the row from now on, with this rank and the next arrival. A thread that stood nowhere comes to
     /// stand there.
     pub fn put(&mut self, row: RowId, t: Tid, rank: u16)
-        requires room { length self.old.seats < most }
-        requires arrival { self.old.next_arrival + 1 < 2 ^ 64 }
+        requires room { HasRoom self.old }
+        requires arrival { HasArrivalLeft self.old }
         ensures { self.new ≡ put_in_row self.old row t rank }
     {
         let place = Place::Stands(row, self.next_arrival);
@@ -137,7 +138,7 @@ impl Rows {
     /// The thread's processor becomes free. Where it runs nowhere nothing changes.
     pub fn leave(&mut self, t: Tid)
         ensures leaves { self.new ≡ leave self.old t }
-        ensures room { has_room self.old t ≡ true → length self.new.seats < most }
+        ensures room { HasRoomToWait self.old t → HasRoom self.new }
     {
         match self.seat(t) {
             None => {}
@@ -150,8 +151,8 @@ impl Rows {
 
     /// The thread leaves its processor, if it runs, and stands in the row.
     pub fn block(&mut self, row: RowId, t: Tid, rank: u16)
-        requires room { has_room self.old t ≡ true }
-        requires arrival { self.old.next_arrival + 1 < 2 ^ 64 }
+        requires room { HasRoomToWait self.old t }
+        requires arrival { HasArrivalLeft self.old }
         ensures { self.new ≡ block_in self.old row t rank }
     {
         self.leave(t);
@@ -224,7 +225,7 @@ impl Rows {
 
     /// A running thread keeps its processor after a turn, or becomes ready. The answer is whether it still runs.
     pub fn keeps(&mut self, t: Tid, fifo: bool) -> bool
-        requires arrival { self.old.next_arrival + 1 < 2 ^ 64 }
+        requires arrival { HasArrivalLeft self.old }
         ensures { record { rows = self.new; stays = result } ≡ keeps self.old t fifo }
     {
         match self.seat(t) {

@@ -1,3 +1,4 @@
 pub mod Records
 pub mod Cells
 pub mod Living
+pub mod Numbers

@@ -1,7 +1,7 @@
 //! The calls on attribute cells.
-ghost use Rattle.std.specs.Prelude.{◌≡◌, ◌<◌};
-ghost use Rattle.thr_parts.specs.Tables.{names};
+ghost use Rattle.std.specs.Prelude.{◌≡◌};
 ghost use Rattle.thr_parts.specs.Scheduling.{attr_create, attr_delete, attr_setsched, attr_setprio, attr_setinherit, attr_setstack};
+ghost use Rattle.thr_tables.specs.Ranges.{IsName};
 
 use crate::numbers;
 use crate::threads::{self, Threads};
@@ -13,7 +13,7 @@ use thr_values::scheduling::Policy;
 impl Threads {
     /// A cell is made.
     pub fn attr_create(&mut self, a: NameId) -> Reply
-        requires known { a.0 < names }
+        requires known { IsName a }
         ensures { record { reply = result; threads = self.new } ≡ attr_create self.old a }
     {
         match self.attrs.get(a) {
@@ -27,7 +27,7 @@ impl Threads {
 
     /// A cell is not made any more.
     pub fn attr_delete(&mut self, a: NameId) -> Reply
-        requires known { a.0 < names }
+        requires known { IsName a }
         ensures { record { reply = result; threads = self.new } ≡ attr_delete self.old a }
     {
         match self.attrs.get(a) {
@@ -41,7 +41,7 @@ impl Threads {
 
     /// A cell gets a policy.
     pub fn attr_setsched(&mut self, a: NameId, policy: Policy) -> Reply
-        requires known { a.0 < names }
+        requires known { IsName a }
         ensures { record { reply = result; threads = self.new } ≡ attr_setsched self.old a policy }
     {
         match self.attrs.get(a) {
@@ -55,7 +55,7 @@ impl Threads {
 
     /// A cell gets a priority.
     pub fn attr_setprio(&mut self, a: NameId, prio: i64) -> Reply
-        requires known { a.0 < names }
+        requires known { IsName a }
         ensures { record { reply = result; threads = self.new } ≡ attr_setprio self.old a prio }
     {
         match self.attrs.get(a) {
@@ -72,7 +72,7 @@ impl Threads {
 
     /// A cell says whether a thread has its maker's policy and priority.
     pub fn attr_setinherit(&mut self, a: NameId, inherits: bool) -> Reply
-        requires known { a.0 < names }
+        requires known { IsName a }
         ensures { record { reply = result; threads = self.new } ≡ attr_setinherit self.old a inherits }
     {
         match self.attrs.get(a) {
@@ -86,7 +86,7 @@ impl Threads {
 
     /// A cell gets a stack size, counted in frames.
     pub fn attr_setstack(&mut self, a: NameId, frames: i64) -> Reply
-        requires known { a.0 < names }
+        requires known { IsName a }
         ensures { record { reply = result; threads = self.new } ≡ attr_setstack self.old a frames }
     {
         match self.attrs.get(a) {

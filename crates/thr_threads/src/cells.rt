@@ -1,6 +1,7 @@
 //! Attribute cells that are made.
-ghost use Rattle.std.specs.Prelude.{◌≡◌, ◌<◌, is_some, IfOk, IfSome};
-ghost use Rattle.thr_parts.specs.Tables.{names, none, get, has, put, cut};
+ghost use Rattle.std.specs.Prelude.{◌≡◌, is_some, IfOk, IfSome};
+ghost use Rattle.thr_parts.specs.Tables.{none, get, has, put, cut};
+ghost use Rattle.thr_tables.specs.Ranges.{IsName};
 ghost use Rattle.thr_threads.specs.Records.{IsRight};
 
 use std::alloc::Global;
@@ -39,7 +40,7 @@ impl Cells {
 
     /// The cell of the name.
     pub fn get(&self, a: NameId) -> Option<Attr>
-        requires known { a.0 < names }
+        requires known { IsName a }
         ensures cell { result ≡ get self.now a.0 }
         ensures known { is_some result ≡ has self.now a.0 }
         ensures right { IfSome result (λ cell. IsRight cell.prio cell.frames) }
@@ -49,7 +50,7 @@ impl Cells {
 
     /// The name has this cell from now on.
     pub fn put(&mut self, a: NameId, cell: Attr)
-        requires known { a.0 < names }
+        requires known { IsName a }
         requires right { IsRight cell.prio cell.frames }
         ensures { self.new ≡ put self.old a.0 cell }
     {
@@ -58,7 +59,7 @@ impl Cells {
 
     /// The name has no cell from now on.
     pub fn cut(&mut self, a: NameId)
-        requires known { a.0 < names }
+        requires known { IsName a }
         ensures { self.new ≡ cut self.old a.0 }
     {
         self.slots.cut(a);

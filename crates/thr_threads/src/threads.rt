@@ -1,7 +1,9 @@
 //! The records of threads and the attribute cells: who is created, joined, detached and ended.
-ghost use Rattle.std.specs.Prelude.{◌≡◌, ◌+◌, ◌<◌, ◌^◌, true, is_some, option_copied, IsOk, IfOk, IfSome};
-ghost use Rattle.thr_parts.specs.Tables.{names, has, put, cut};
+ghost use Rattle.std.specs.Prelude.{◌≡◌, true, option_copied, IsOk, IfOk, IfSome};
+ghost use Rattle.thr_parts.specs.Tables.{has, put, cut};
 ghost use Rattle.thr_parts.specs.Threads.{first_threads, with_records, natural, record_of, rank_at, live, new_attr, new_thread, attr_at, created_by, create, ended_reply, join, detach, set_ended};
+ghost use Rattle.thr_tables.specs.Ranges.{IsNameIfThere};
+ghost use Rattle.thr_threads.specs.Numbers.{HasNumberLeft};
 ghost use Rattle.thr_threads.specs.Records.{IsRight, IsRecordOf};
 ghost use Rattle.thr_threads.specs.Living.{count_and_first};
 
@@ -183,7 +185,7 @@ impl Threads {
 
     /// The attribute cell of a name that is there, and else `default`.
     fn attr_at(&self, a: Option<NameId>) -> Option<Attr>
-        requires known { IfSome a (λ n. n.0 < names) }
+        requires known { IsNameIfThere a }
         ensures cell { result ≡ attr_at self.now a }
         ensures right { IfSome result (λ cell. IsRight cell.prio cell.frames) }
     {
@@ -195,8 +197,8 @@ impl Threads {
 
     /// A thread creates another, whose number is the reply. Numbers aren't given again.
     pub fn create(&mut self, maker: Tid, a: Option<NameId>) -> Reply
-        requires known { IfSome a (λ n. n.0 < names) }
-        requires number { self.old.next + 1 < 2 ^ 32 }
+        requires known { IsNameIfThere a }
+        requires number { HasNumberLeft self.old }
         ensures { record { reply = result; threads = self.new } ≡ create self.old maker a }
     {
         match self.attr_at(a) {

@@ -1,0 +1,3 @@
+pub mod CancelLaws
+pub mod ApartLaws
+pub mod EndedLaws
