@@ -15,15 +15,10 @@ use Rattle.thr_rows.specs.Room.{HasRoom}
 use Rattle.thr_rows.proofs.AgreementLaws as rows
 use Rattle.thr_rows.proofs.RoomLaws.{room_of_row}
 use Rattle.thr_conds.specs.Agreement.{WaitsAgree}
-use Rattle.thr_conds.specs.Due.{AreSeated}
 use Rattle.thr_conds.proofs.KeepLaws.{wait_rows, agree_in}
 use Rattle.thr_conds.proofs.TakingLaws.{first_by, first_waits}
 
--- A thread that waits has a seat.
-pub are_seated : (cs : Conds) (rs : Rows) → WaitsAgree cs rs → AreSeated cs.waits rs
-are_seated cs rs h = record { seated = λ t is. rows.are_seated wait_rows cs.waits rs t (agree_in cs rs h) is }
-
--- So there is room for one wait more.
+-- There is room for one wait more.
 pub place_for_wait : (cs : Conds) (rs : Rows) (t : ℕ) → WaitsAgree cs rs → IsCanonical cs.waits → length rs.seats ≤ most → has_place cs.waits t 4096 ≡ true
 place_for_wait cs rs t h rises within = rows.place_for_wait wait_rows cs.waits rs t (agree_in cs rs h) rises within
 

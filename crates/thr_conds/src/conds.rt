@@ -303,7 +303,6 @@ impl Conds {
 
     /// The best thread whose time has come.
     fn next_due(&self, now: i64, rows: &Rows) -> Option<Tid>
-        requires agrees { WaitsAgree self.now rows.now }
         ensures { result ≡ number_in (best_of (due self.now rows.now now)) }
     {
         let _seats = rows.len();

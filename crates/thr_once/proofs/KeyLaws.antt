@@ -1,5 +1,5 @@
 -- The keys that are made, as their destructors and the list of values tell them, and after a change.
-use Rattle.std.proofs.Common.{◌≡◌, ℕ, ℤ, pos, ◌<◌, ◌≤◌, Bool, true, false, ◌&&◌, cond, eqb, List, [], ◌∷◌, Option, Some, None, refl, sym, arith, ◌∙◌, ap, subst}
+use Rattle.std.proofs.Common.{◌≡◌, ℕ, ℤ, ◌<◌, ◌≤◌, Bool, true, false, ◌&&◌, cond, eqb, List, [], ◌∷◌, Option, Some, None, refl, sym, arith, ◌∙◌, ap, subst}
 use Rattle.std.proofs.lemmas.Bool.Decides.{nat_tests}
 use Rattle.std.specs.Option.{is_some, option_map}
 use Rattle.std.specs.Ordering.{nat_cmp, is_lt}
@@ -11,8 +11,8 @@ use Rattle.thr_parts.specs.Keys.{Key, new_key, with_value, as_valued, value_in}
 use Rattle.thr_parts.proofs.TableLaws.{has_get, get_none, get_put, canonical_none, canonical_put, same_table}
 use Rattle.thr_parts.proofs.EntryLaws.{get_cons, get_empty}
 use Rattle.thr_once.specs.declared.values.KeyValue.{KeyValue}
-use Rattle.thr_once.specs.Values.{values_of, without, stored, key_of, keys_of, IsKept}
-use Rattle.thr_once.proofs.ValueLaws.{values_without, other_without, values_stored, other_stored}
+use Rattle.thr_once.specs.Values.{place_number, by_place, stored, values_of, key_of, keys_of, AreOrdered, IsKept}
+use Rattle.thr_once.proofs.ValueLaws.{values_stored, other_stored}
 
 same_number : (x y : ℕ) → eqb x y ≡ true → x ≡ y
 same_number x y e = grind (arith, nat_tests)
@@ -76,6 +76,7 @@ kept_none made vs e f = record {
   rises = subst IsCanonical (sym e) (canonical_none (Option NameId));
   known = λ k h. ap (λ (m : Table (Option NameId)). get m k) e ∙ get_none k;
   unmade = λ k h. ap (values_of k) f;
+  ordered = subst AreOrdered (sym f) (record { rises = refl; named = tt });
 }
 
 -- ---- a key is made
@@ -106,6 +107,7 @@ kept_made made vs k d h within = record {
   rises = canonical_put made k d h.rises;
   known = λ q past. get_put made k q d ∙ ap (λ b. cond b (Some d) (get made q)) (not_at k q names within past) ∙ h.known q past;
   unmade = λ j e. h.unmade j (still_unmade made k j d (eqb k j) (sym (get_put made k j d) ∙ e));
+  ordered = h.ordered;
 }
 
 -- ---- values change
@@ -139,17 +141,22 @@ keys_changed made vs new k t x h c there =
     changed_keys made vs new k t x (get made k) h.rises c refl (sym (has_keys made vs k ∙ has_get made k) ∙ there)
     ∙ ap (λ (o : Option Key). put_if (keys_of made vs) k (option_map (as_valued t x) o)) (sym (get_keys made vs k))
 
-pub cleared : (vs new : List KeyValue) (k : ℕ) (t : Tid) → new ≡ without k t.0 vs → Changes vs new k t (pos 0)
-cleared vs new k t e = record {
-  here = ap (values_of k) e ∙ values_without k t.0 vs;
-  others = λ j other. ap (values_of j) e ∙ other_without k t.0 j vs other;
+pub changed : (vs new : List KeyValue) (k : ℕ) (t : Tid) (x : ℤ) → k < names → AreOrdered vs → AreOrdered new → by_place new ≡ stored (by_place vs) (place_number k t.0) x → Changes vs new k t x
+changed vs new k t x known h g e = record {
+  here = values_stored k t x vs new known h.named g.named e;
+  others = λ j other. other_stored k t.0 x j vs new known h.named g.named e other;
 }
 
-pub changed : (vs new : List KeyValue) (k : NameId) (t : Tid) (x : ℤ) → new ≡ stored k t x vs → Changes vs new k.0 t x
-changed vs new k t x e = record {
-  here = ap (values_of k.0) e ∙ values_stored k t x vs;
-  others = λ j other. ap (values_of j) e ∙ other_stored k t x j vs other;
-}
+below_or_none : (n k : ℕ) (o : Option (Option NameId)) → (n ≤ k → o ≡ None) → is_some o ≡ true → k < n
+below_or_none n k None h e = absurd (cc)
+below_or_none n k (Some d) h e = below n k h
+  where
+    below : (n k : ℕ) → (n ≤ k → (let o : Option (Option NameId) = Some d in o) ≡ None) → k < n
+    below n k h = grind (arith, nat_tests)
+
+-- A key that is made has the number of a name.
+pub made_is_known : (made : Table (Option NameId)) (vs : List KeyValue) (k : ℕ) → IsKept made vs → has (keys_of made vs) k ≡ true → k < names
+made_is_known made vs k h there = below_or_none names k (get made k) (h.known k) (sym (has_keys made vs k ∙ has_get made k) ∙ there)
 
 unmade_by : (made : Table (Option NameId)) (vs new : List KeyValue) (k j : ℕ) (t : Tid) (x : ℤ) (b : Bool) → Changes vs new k t x → (get made j ≡ None → values_of j vs ≡ none) → has made k ≡ true
     → eqb k j ≡ b → get made j ≡ None → values_of j new ≡ none
@@ -158,9 +165,10 @@ unmade_by made vs new k j t x true h old there at e =
     absurd (cc (sym there ∙ has_get made k ∙ ap is_some missing))
 unmade_by made vs new k j t x false h old there at e = h.others j at ∙ old e
 
-pub kept_changed : (made : Table (Option NameId)) (vs new : List KeyValue) (k : ℕ) (t : Tid) (x : ℤ) → IsKept made vs → Changes vs new k t x → has (keys_of made vs) k ≡ true → IsKept made new
-kept_changed made vs new k t x h c there = record {
+pub kept_changed : (made : Table (Option NameId)) (vs new : List KeyValue) (k : ℕ) (t : Tid) (x : ℤ) → IsKept made vs → Changes vs new k t x → AreOrdered new → has (keys_of made vs) k ≡ true → IsKept made new
+kept_changed made vs new k t x h c g there = record {
   rises = h.rises;
   known = h.known;
   unmade = λ j e. unmade_by made vs new k j t x (eqb k j) c (h.unmade j) (sym (has_keys made vs k) ∙ there) refl e;
+  ordered = g;
 }

@@ -1,3 +1,4 @@
+pub mod OrderLaws
 pub mod ValueLaws
 pub mod KeyLaws
 pub mod CallLaws

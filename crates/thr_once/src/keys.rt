@@ -3,16 +3,13 @@ ghost use Rattle.std.specs.Prelude.{◌≡◌, ◌+◌, ◌<◌, ◌≤◌, true
 ghost use Rattle.std.specs.Option.{option_map};
 ghost use Rattle.thr_parts.specs.Tables.{names, none, get, has, put, put_if};
 ghost use Rattle.thr_parts.specs.Keys.{new_key, as_valued, value_in, called_with, first_call};
-ghost use Rattle.thr_once.specs.Values.{keys_of, IsKept, call_at};
+ghost use Rattle.thr_once.specs.Values.{keys_of, IsKept, called_at};
 
 use crate::values::{self, KeyValue};
 use std::alloc::Global;
 use std::marker::Model;
 use thr_tables::Slots;
 use thr_values::number::{NameId, NoMemory, Tid};
-
-/// How many names there can be.
-const NAMES: u16 = 1010;
 
 /// A key, its destructor, and the value with which that is called.
 pub type DestructorCall = (NameId, NameId, i64);
@@ -51,43 +48,38 @@ fn called_with(k: NameId, routine: NameId, value: i64) -> Option<DestructorCall>
     Some((k, routine, value))
 }
 
-/// The call of the key's destructor for the thread, where the key is made, has one, and the thread's value isn't 0.
-fn call_in(
-    made: &Slots<Option<NameId>>,
-    values: &[KeyValue],
-    k: NameId,
-    t: Tid,
-) -> Option<DestructorCall>
-    requires known { k.0 < names }
-    ensures call { result ≡ call_at k.0 t (get (keys_of made.now values.now) k.0) }
-    ensures its { IfSome result (λ c. c.0.0 ≡ k.0) }
+/// The call of the destructor with which the key of the value is made, where it has one.
+fn call_of(made: &Slots<Option<NameId>>, v: KeyValue) -> Option<DestructorCall>
+    requires known { v.key.0 < names }
+    ensures call { result ≡ called_at v.key.0 (get made.now v.key.0) v.value }
     ensures made { IfSome result (λ c. has made.now c.0.0 ≡ true) }
 {
-    match made.get(k) {
+    match made.get(v.key) {
         None => None,
         Some(destructor) => match destructor {
             None => None,
-            Some(routine) => called_with(k, routine, values::value_of(values, k, t)),
+            Some(routine) => called_with(v.key, routine, v.value),
         },
     }
 }
 
-/// The call of the key of least number that has one.
+/// The call of the key of least number that has one. The values of the thread stand one behind the other, by keys.
 fn next_in(made: &Slots<Option<NameId>>, values: &[KeyValue], t: Tid) -> Option<DestructorCall>
     requires kept { IsKept made.now values.now }
     ensures call { result ≡ first_call t (keys_of made.now values.now) }
     ensures made { IfSome result (λ c. has made.now c.0.0 ≡ true) }
 {
-    if !values::has_values(values, t) {
-        return None;
-    }
-    let mut k = 0;
-    while k < NAMES {
-        let call = call_in(made, values, NameId(k), t);
+    let mut i = values::place_of(values, NameId(0), t);
+    while i < values.len() {
+        let value = values[i];
+        if value.thread.0 != t.0 {
+            return None;
+        }
+        let call = call_of(made, value);
         if call.is_some() {
             return call;
         }
-        k += 1;
+        i += 1;
     }
     None
 }
@@ -109,6 +101,7 @@ impl Keys {
         ensures room { OnOk result (1 ≤ self.new.room) }
         ensures keys { self.new.keys ≡ self.old.keys }
         ensures refused { OnErr result (self.new ≡ self.old) }
+        ensures full { OnErr result (self.old.room ≡ 0) }
     {
         match self.values.reserve(1) {
             Ok(()) => Ok(()),

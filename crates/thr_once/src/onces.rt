@@ -42,11 +42,13 @@ impl Onces {
         Ok(Onces { blocks, keys })
     }
 
-    /// Gives room for one value of a key more, which `setspecific` needs. Where it is refused nothing changes.
+    /// Gives room for one value of a key more, which `setspecific` needs. It is refused only where there is none, and then
+    /// nothing changes.
     pub fn make_room(&mut self) -> Result<(), NoMemory>
         ensures room { OnOk result (1 ≤ self.new.room) }
         ensures same { self.new.state ≡ self.old.state }
         ensures refused { OnErr result (self.new ≡ self.old) }
+        ensures full { OnErr result (self.old.room ≡ 0) }
     {
         self.keys.make_room()
     }

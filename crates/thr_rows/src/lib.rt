@@ -10,3 +10,4 @@ mod slices;
 mod tests;
 
 pub use rows::Rows;
+pub use seats::{Entry, better};

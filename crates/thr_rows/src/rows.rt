@@ -2,7 +2,6 @@
 ghost use Rattle.std.specs.Prelude.{◌≡◌, ◌≤◌, length, true, is_some, IfOk, IfSome};
 ghost use Rattle.thr_parts.specs.Tables.{has, IsCanonical};
 ghost use Rattle.thr_parts.specs.Rows.{no_rows, seat_of, best, best_of, standing, row_of, before, most};
-ghost use Rattle.thr_parts.specs.declared.row.RowId.TheVariants as row;
 ghost use Rattle.thr_parts.specs.Moves.{put_in_row, take_out, leave, block_in, set_rank};
 ghost use Rattle.thr_parts.specs.Dispatch.{running, next_for, dispatch, gives_way, keeps};
 ghost use Rattle.thr_rows.specs.Room.{HasRoom, HasRoomToWait, HasArrivalLeft};
@@ -57,8 +56,8 @@ impl Rows {
 
     // ---- where a thread stands
 
-    /// The thread's seat, unless it stands nowhere.
-    fn seat(&self, t: Tid) -> Option<Seat>
+    /// The thread's seat, in a row or on a processor, unless it stands nowhere.
+    pub fn seat(&self, t: Tid) -> Option<Seat>
         ensures seat { result ≡ seat_of self.now t }
         ensures known { is_some result ≡ has self.now.seats t.0 }
     {

@@ -24,8 +24,8 @@ pub fn is_before(a: Seat, b: Seat) -> bool
     arrival(a.place) < arrival(b.place)
 }
 
-/// The better of a thread and another that may be there.
-fn better(entry: Entry, found: Option<Entry>) -> Entry
+/// The better of a thread and another that may be there, as `Rows::before` says it of two.
+pub fn better(entry: Entry, found: Option<Entry>) -> Entry
     ensures { result ≡ better entry found }
 {
     match found {

@@ -69,6 +69,54 @@ is_past_place t i d [] g l = absurd (omega arith)
 is_past_place t zero d (e ∷ es) g l = first_past e.0 t (place t es) l
 is_past_place t (suc i) d (e ∷ es) g l = step_past (ltb e.0 t) i (place t es) (is_past_place t i d es (omega arith) l)
 
+-- The numbers rise from entry to entry.
+pub rises_from : {A : Type 0} (m : Table A) (i j : ℕ) (d : ℕ × A) → IsCanonical m → i ≤ j → j < length m → (get_or m i d).0 ≤ (get_or m j d).0
+rises_from [] i j d h le l = absurd (omega arith)
+rises_from (e ∷ es) zero zero d h le l = omega arith
+rises_from (e ∷ es) zero (suc j) d h le l =
+    let above : e.0 < (get_or es j d).0 = all_above e.0 j d es (below_parts e es h).0 (omega arith) in
+    omega arith
+rises_from (e ∷ es) (suc i) zero d h le l = absurd (omega arith)
+rises_from (e ∷ es) (suc i) (suc j) d h le l = rises_from es i j d (below_parts e es h).1 (omega arith) (omega arith)
+
+own_first : (x n : ℕ) → cond (ltb x x) (suc n) 0 ≡ 0
+own_first x n = grind (arith, nat_tests)
+
+own_later : (x y n i : ℕ) → x < y → n ≡ i → cond (ltb x y) (suc n) 0 ≡ suc i
+own_later x y n i h e = grind (arith, nat_tests)
+
+-- An entry stands at its own place.
+pub own_place : {A : Type 0} (m : Table A) (i : ℕ) (d : ℕ × A) → IsCanonical m → i < length m → place (get_or m i d).0 m ≡ i
+unfolding place
+own_place [] i d h l = absurd (omega arith)
+own_place (e ∷ es) zero d h l = own_first e.0 (place e.0 es)
+own_place (e ∷ es) (suc i) d h l =
+    let parts = below_parts e es h in
+    own_later e.0 (get_or es i d).0 (place (get_or es i d).0 es) i (all_above e.0 i d es parts.0 (omega arith)) (own_place es i d parts.1 (omega arith))
+
+step_with : (z x y p q : ℕ) → x ≤ y → p ≤ q → cond (ltb z x) (suc p) 0 ≤ cond (ltb z y) (suc q) 0
+step_with z x y p q h g = grind (arith, nat_tests)
+
+-- A greater number has no earlier place.
+pub places_rise : {A : Type 0} (m : Table A) (x y : ℕ) → x ≤ y → place x m ≤ place y m
+unfolding place
+places_rise [] x y h = omega arith
+places_rise (e ∷ es) x y h = step_with e.0 x y (place x es) (place y es) h (places_rise es x y h)
+
+at_most : (p l i : ℕ) → p ≤ l → i ≤ l → (i < l → p ≤ i) → p ≤ i
+at_most p l i h g f = grind (arith, nat_tests)
+
+at_least : {A : Type 0} (m : Table A) (n i : ℕ) (d : ℕ × A) → IsCanonical m → i ≤ length m → ((j : ℕ) → j < i → (get_or m j d).0 < n) → i ≤ place n m
+at_least m n zero d h w low = omega arith
+at_least m n (suc i) d h w low = let before : i < place n m = is_before_place n i d m h (omega arith) (low i (omega arith)) in omega arith
+
+-- The place is where all before have lesser numbers and the next has none.
+pub is_place : {A : Type 0} (m : Table A) (n i : ℕ) (d : ℕ × A) → IsCanonical m → i ≤ length m → ((j : ℕ) → j < i → (get_or m j d).0 < n) → (i < length m → n ≤ (get_or m i d).0) → i ≡ place n m
+is_place m n i d h w low high =
+    let a : i ≤ place n m = at_least m n i d h w low in
+    let b : place n m ≤ i = at_most (place n m) (length m) i (place_within n m) w (λ l. is_past_place n i d m l (high l)) in
+    omega (arith, a, b)
+
 -- ---- whether the number stands there
 
 there_by : {A : Type 0} (t : ℕ) (d f : ℕ × A) (fs : Table A) (b : Bool) → (place t fs < length fs → (get_or fs (place t fs) d).0 ≡ t → is_there t fs ≡ true)

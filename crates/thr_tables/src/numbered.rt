@@ -1,5 +1,7 @@
 //! A table by the numbers of threads.
 ghost use Rattle.std.specs.Prelude.{◌≡◌, ◌+◌, ◌<◌, ◌≤◌, length, vec_len, vec_capacity, true, false, IfOk, IfErr, is_some};
+ghost use Rattle.std.specs.Fn.{CalledAt};
+ghost use Rattle.std.specs.List.Retain.{IsFiltered};
 ghost use Rattle.thr_parts.specs.Tables.{none, get, has, put, cut, IsCanonical};
 ghost use Rattle.thr_tables.specs.Places.{place, is_there, has_place};
 
@@ -76,6 +78,14 @@ impl<T: Copy + Drop, const ROOM: usize> Numbered<T, ROOM> {
         ensures within { length self.old ≤ ROOM }
     {
         remove(&mut self.entries, t.0);
+    }
+
+    /// The entries stay for which the test gives true, in their order, and the others go.
+    pub fn retain<F: FnMut(&(u32, T)) -> bool>(&mut self, test: F)
+        requires { F.IsAlwaysCallable test }
+        ensures { IsFiltered (CalledAt F.FnMut) test self.old self.new }
+    {
+        self.entries.retain(test);
     }
 }
 

@@ -1,5 +1,5 @@
 //! A table by names: a slot for each.
-ghost use Rattle.std.specs.Prelude.{◌≡◌, ◌<◌, ◌≤◌, IfOk, is_some, vec_len, option_copied};
+ghost use Rattle.std.specs.Prelude.{◌≡◌, ◌<◌, IfOk, IfNone, is_some, vec_len, option_copied};
 ghost use Rattle.thr_parts.specs.Tables.{names, none, get, has, put, cut};
 
 use std::alloc::Global;
@@ -59,13 +59,14 @@ impl<T: Drop> Slots<T> {
         self.items[name.0 as usize] = Some(value);
     }
 
-    /// Nothing stands at the name from now on, and the answer is what stood there. So a value is changed that isn't `Copy`:
-    /// it is taken, changed and put back.
+    /// Nothing stands at the name from now on, and the answer is what stood there. Where nothing did the table stays. So a
+    /// value is changed that isn't `Copy`: it is taken, changed and put back.
     pub fn take(&mut self, name: NameId) -> Option<T>
         requires known { name.0 < names }
         ensures value { result ≡ get self.old name.0 }
         ensures known { is_some result ≡ has self.old name.0 }
         ensures table { self.new ≡ cut self.old name.0 }
+        ensures absent { IfNone result (self.new ≡ self.old) }
         ensures back { (v : T) → put self.new name.0 v ≡ put self.old name.0 v }
     {
         mem::replace(&mut self.items[name.0 as usize], None)

@@ -3,4 +3,5 @@
 mod conds;
 mod copies;
 mod onces;
+mod pipes;
 mod threads;

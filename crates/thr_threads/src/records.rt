@@ -1,5 +1,5 @@
 //! Records of threads. They stand in a slab, which gives its keys out again; numbers of threads lead to keys.
-ghost use Rattle.std.specs.Prelude.{◌≡◌, ◌+◌, ◌≤◌, true, is_none, is_some, length, option_copied, IfOk, IfSome, Some};
+ghost use Rattle.std.specs.Prelude.{◌≡◌, ◌≤◌, true, is_none, is_some, length, option_copied, IfOk, IfSome, Some};
 ghost use Rattle.slab.specs.Slab.{ContainsKey, Updates, slab_len};
 ghost use Rattle.thr_parts.specs.Tables.{none, get, has, put, cut};
 ghost use Rattle.thr_parts.specs.Rows.{most};

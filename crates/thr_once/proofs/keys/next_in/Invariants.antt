@@ -1,9 +1,9 @@
-use Rattle.std.proofs.Common.{◌-◌}
-use Rattle.thr_once.proofs.CallLaws.{HaveNoCall}
+use Rattle.std.proofs.Common.{◌-◌, length}
+use Rattle.thr_once.proofs.CallLaws.{Passed}
 use Rattle.thr_once.proofs.keys.next_in.Given as goal
 
-abbrev pub invariant-loop-k : goal.invariant-loop-k
-invariant-loop-k l = HaveNoCall l.made l.values l.t l.k
+abbrev pub invariant-loop-i : goal.invariant-loop-i
+invariant-loop-i l = Passed l.made l.values l.t l.i
 
-abbrev pub decreases-loop-k : goal.decreases-loop-k
-decreases-loop-k l = 1010 - l.k
+abbrev pub decreases-loop-i : goal.decreases-loop-i
+decreases-loop-i l = length l.values - l.i

@@ -1,16 +1,11 @@
-use Rattle.std.proofs.Common.{◌≡◌, ap, subst, sym, ◌∙◌, ℤ, to_z, of_z, w64}
+use Rattle.std.proofs.Common.{◌≡◌, ap, ◌∙◌, ℤ, to_z, of_z, w64}
 use Rattle.std.proofs.lemmas.Int.{to_z-of_z}
 use Rattle.thr_parts.specs.declared.wait.Wait.{Wait}
 use Rattle.thr_parts.specs.Tables.{Table}
 use Rattle.thr_parts.specs.Conditions.{Conds}
-use Rattle.thr_conds.specs.Due.{best_due, AreSeated}
-use Rattle.thr_conds.proofs.AgreementLaws.{are_seated}
+use Rattle.thr_conds.specs.Due.{best_due}
 use Rattle.thr_conds.proofs.DueLaws.{best_due_is}
 use Rattle.thr_conds.proofs.conds.Conds.next_due.Goals as goal
-
-pub best_due-requires-clause-seated : goal.best_due-requires-clause-seated
-best_due-requires-clause-seated c =
-    rw c.entries.ensures.entries (subst (λ (cs : Conds). AreSeated cs.waits c.args.rows.now) (sym c.self.view_is) (are_seated c.args.self.now c.args.rows.now c.requires.agrees))
 
 pub returns : goal.returns
 returns c =
