@@ -144,7 +144,7 @@ no_wait lock (what.Call c args reply.Blocks) e = absurd (false≢true (sym e))
 no_wait lock (what.Call c args y) e = refl
 no_wait lock _ e = refl
 
-no_last : (lock : Lock) (o : Option What) → is_some_line is_waiting_call o ≡ false → is_some_line (is_wait_with lock) o ≡ false
+pub no_last : (lock : Lock) (o : Option What) → is_some_line is_waiting_call o ≡ false → is_some_line (is_wait_with lock) o ≡ false
 no_last lock None e = refl
 no_last lock (Some w) e = no_wait lock w e
 

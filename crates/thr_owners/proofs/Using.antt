@@ -263,7 +263,7 @@ trylock_carries k m ls t w d =
     (line_carries k t w (used_if b (told.Locks (Some m))) ls.kinds (mutex_at ls k) _ d
     (taking k (Some m) (mutex_at ls k) t b (λ e s. subst (λ (v : Lock). is_done (lock_reply (mutex_at ls v) t) ≡ true) (same_lock (Some m) k s) e)))
 
-unlock_there : (u : Option Mutex) (t : Tid) → is_done (unlock_reply u t) ≡ true → is_some u ≡ true
+pub unlock_there : (u : Option Mutex) (t : Tid) → is_done (unlock_reply u t) ≡ true → is_some u ≡ true
 unlock_there None t e = absurd (cc)
 unlock_there (Some x) t e = refl
 
@@ -286,7 +286,7 @@ unlock_carries k m ls rs t w d =
 
 -- ---- waits that begin
 
-held_there : (u : Option Mutex) (t : Tid) → is_held_by (owner_in u) t ≡ true → is_some u ≡ true
+pub held_there : (u : Option Mutex) (t : Tid) → is_held_by (owner_in u) t ≡ true → is_some u ≡ true
 held_there None t e = absurd (cc)
 held_there (Some x) t e = refl
 
@@ -310,13 +310,13 @@ blocks_by true true false right e = absurd (cc)
 blocks_by true false last right e = absurd (cc)
 blocks_by false held last right e = absurd (cc)
 
-wait_owns : (cs : Conds) (ls : Locks) (c m : NameId) (t : Tid) → is_blocks (wait_reply cs ls c m t) ≡ true → OwnsOnce (mutex_at ls (Some m)) t
+pub wait_owns : (cs : Conds) (ls : Locks) (c m : NameId) (t : Tid) → is_blocks (wait_reply cs ls c m t) ≡ true → OwnsOnce (mutex_at ls (Some m)) t
 wait_owns cs ls c m t e =
     let p =
     blocks_by (has cs.made c.0 && has ls.mutexes m.0) (is_held_by (owner ls (Some m)) t) (is_last (owner ls (Some m))) (not (waits_otherwise cs c m)) e in
     record { held = p.0; last = p.1 }
 
-timed_blocks : (y : Reply) (b : Bool) → is_blocks (timedwait_reply y b) ≡ true → is_blocks y ≡ true
+pub timed_blocks : (y : Reply) (b : Bool) → is_blocks (timedwait_reply y b) ≡ true → is_blocks y ≡ true
 timed_blocks reply.Blocks b e = refl
 timed_blocks _ b e = e
 

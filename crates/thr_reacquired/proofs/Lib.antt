@@ -1,0 +1,10 @@
+pub mod Regaining
+pub mod OnceEach
+pub mod Woken
+pub mod InRows
+pub mod CallsKeep
+pub mod TurnsKeep
+pub mod OwnersStay
+pub mod OwnTurns
+pub mod Histories
+pub mod Handling
