@@ -13,11 +13,14 @@ use Rattle.thr_wire.specs.Bytes.{TookMoreThan, TookAll}
 use Rattle.thr_text.specs.Reading.{Formed}
 use Rattle.thr_model.specs.States.{State}
 use Rattle.thr_model.specs.Histories.{Legal, limit_of, stop_with, stop_at}
+use Rattle.thr_laws.specs.CallsOnce.{CallsOnce}
+use Rattle.thr_laws.specs.CancelLaw.{CancelLaw}
+use Rattle.thr_laws.specs.Owners.{OneOwner}
 use Rattle.thr_laws.specs.Routed.{Routed}
 use Rattle.thr_machine.specs.Views.{BookView}
 use Rattle.thr_machine.specs.Books.{Makes, RoomOnly, IsEndAlone, stop_of}
 use Rattle.thr_top.specs.Driving.{IsGoing, IsAtEnd, room_of}
-use Rattle.thr_top.specs.Answers.{IsRunStatus, Refuses, RunAnswers, CheckAnswers, Ends, answered, unread, no_memory, not_run, not_checked, whole, max_script}
+use Rattle.thr_top.specs.Answers.{IsRunStatus, MeetsLaws, Refuses, RunAnswers, CheckAnswers, Ends, answered, unread, no_memory, not_run, not_checked, whole, max_script}
 
 gains-nothing : (o : Option (List ℕ)) → Appends o o []
 gains-nothing None = tt
@@ -94,10 +97,13 @@ goes-further old mid new e going open_ same m =
       omega (arith, less, ap limit_of script, ap length lines, length-append old.entries m.made.lines, m.some),
     )
 
--- A legal history of a script is routed, where the law says so of each script that keeps the rules.
-pub routed-of : ((s : Script) (n : ℕ) (es : List Entry) (stop : Stop) → Formed s → Legal s n es stop → Routed s es)
-    → (s told : Script) (n : ℕ) (es : List Entry) (stop : Stop) → Formed s → told ≡ s → Legal told n es stop → Routed s es
-routed-of law s told n es stop formed same legal = law s n es stop formed (subst (λ (x : Script). Legal x n es stop) same legal)
+-- A legal history of a script that keeps the rules meets the laws, where each law says so.
+pub laws-of : ((s : Script) (n : ℕ) (es : List Entry) (stop : Stop) → Formed s → Legal s n es stop → Routed s es) → ((s : Script) (n : ℕ) (es : List Entry) (stop : Stop) → Legal s n es stop → OneOwner es)
+    → ((s : Script) (n : ℕ) (es : List Entry) (stop : Stop) → Legal s n es stop → CancelLaw s es) → ((s : Script) (n : ℕ) (es : List Entry) (stop : Stop) → Legal s n es stop → CallsOnce s es stop)
+    → (s told : Script) (n : ℕ) (es : List Entry) (stop : Stop) → Formed s → told ≡ s → Legal told n es stop → MeetsLaws s es stop
+laws-of routes owners cancels calls s told n es stop formed same legal =
+    let l : Legal s n es stop = subst (λ (x : Script). Legal x n es stop) same legal in
+    record { routes = routes s n es stop formed l; owners = owners s n es stop l; cancels = cancels s n es stop l; calls = calls s n es stop l }
 
 -- a run's status, where the sink's fault is ruled out
 pub runs-well : (status : ℕ) → IsRunStatus status ⊎ (status ≡ 4) → (status ≡ 4 → ⊥) → IsRunStatus status

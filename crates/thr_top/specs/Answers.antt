@@ -10,6 +10,9 @@ use Rattle.thr_syntax.specs.Canon.{canon}
 use Rattle.thr_text.specs.Faults.{first_of}
 use Rattle.thr_text.specs.Journals.{text}
 use Rattle.thr_text.specs.Reading.{Reads, faults}
+use Rattle.thr_laws.specs.CallsOnce.{CallsOnce}
+use Rattle.thr_laws.specs.CancelLaw.{CancelLaw}
+use Rattle.thr_laws.specs.Owners.{OneOwner}
 use Rattle.thr_laws.specs.Routed.{Routed}
 use Rattle.thr_machine.specs.Built.{first_unbuilt}
 use Rattle.thr_model.specs.Histories.{Legal}
@@ -59,6 +62,15 @@ unbuilt line = one_line (codes "refused not built line " ++ decimal line)
 
 -- ---- answers
 
+-- The lines of a history with this stop meet the laws of docs/laws.md: each unwinding takes its route through the open handlers until
+-- it is caught or replaced, no mutex has two owners, cancels are delivered when they must and may be, and each call that waits is
+-- answered once.
+pub record MeetsLaws (s : Script) (entries : List Entry) (stop : Stop) : Type 0 where
+  pub routes : Routed s entries
+  pub owners : OneOwner entries
+  pub cancels : CancelLaw s entries
+  pub calls : CallsOnce s entries stop
+
 -- This status and this text answer a command that reads a script, where the input is none.
 pub data Refuses (input : List ℕ) (status : ℕ) (written : List ℕ) : Type 0 where
   too_long : max_script < length input → status ≡ 2 → written ≡ one_line (codes "refused too long") → Refuses input status written
@@ -70,9 +82,9 @@ pub data Refuses (input : List ℕ) (status : ℕ) (written : List ℕ) : Type 0
 
 -- This status and this text answer `run` with so many workers on this input.
 pub data RunAnswers (workers : ℕ) (input : List ℕ) (status : ℕ) (written : List ℕ) : Type 0 where
-  -- The journal of a legal history of the script, in which each unwinding takes its route, with the status of its stop.
+  -- The journal of a legal history of the script, which meets the laws, with the status of its stop.
   ran : (s : Script) (entries : List Entry) (stop : Stop) → length input ≤ max_script → Reads input s → first_unbuilt s ≡ None → Legal s workers entries stop
-      → Routed s entries → stop ≢ stops.Memory → status ≡ status_of stop → written ≡ text s workers entries stop → RunAnswers workers input status written
+      → MeetsLaws s entries stop → stop ≢ stops.Memory → status ≡ status_of stop → written ≡ text s workers entries stop → RunAnswers workers input status written
   -- The first line of the canonical text that the machine doesn't run yet.
   not_built : (s : Script) (line : ℕ) → length input ≤ max_script → Reads input s → first_unbuilt s ≡ Some line
       → status ≡ 2 → written ≡ unbuilt line → RunAnswers workers input status written

@@ -4,12 +4,15 @@ ghost use Rattle.std.specs.Prelude.{◌≡◌, ◌<◌, IfOk, OnOk, None, true, 
 ghost use Rattle.thr_text.specs.Reading.{Formed};
 ghost use Rattle.thr_machine.specs.Books.{IsEndAlone};
 ghost use Rattle.thr_machine.specs.Built.{first_unbuilt};
-ghost use Rattle.thr_laws.specs.Routed.{Routed};
 ghost use Rattle.thr_model.specs.Histories.{Legal};
+ghost use Rattle.thr_top.specs.Answers.{MeetsLaws};
 ghost use Rattle.thr_top.specs.Driving.{IsGoing, IsAtEnd, room_of};
 
 use std::alloc::Global;
+use thr_answers::laws::each_call_is_answered_once;
 use thr_machine::book::Book;
+use thr_owners::laws::no_mutex_has_two_owners;
+use thr_reacquired::laws::cancels_are_delivered_when_they_must_and_may_be;
 use thr_routed::laws::each_unwinding_takes_its_route;
 use thr_syntax::journal::Journal;
 use thr_syntax::tree::Script;
@@ -50,13 +53,16 @@ pub fn history_of(alloc: Global, script: Script) -> Result<Journal, NoMemory>
     requires formed { Formed script }
     requires built { first_unbuilt script ≡ None }
     ensures legal { IfOk result (λ j. Legal script 1 j.entries j.stop) }
-    ensures routed { IfOk result (λ j. Routed script j.entries) }
+    ensures laws { IfOk result (λ j. MeetsLaws script j.entries j.stop) }
     ensures stop { IfOk result (λ j. IsEndAlone j.stop) }
     ensures same { IfOk result (λ j. (j.script ≡ script) × (j.workers ≡ 1)) }
 {
     let mut book = Book::new(alloc, script, 1)?;
     drive(&mut book)?;
-    // The law by which what was made is routed.
+    // The laws that what was made meets.
     each_unwinding_takes_its_route();
+    no_mutex_has_two_owners();
+    cancels_are_delivered_when_they_must_and_may_be();
+    each_call_is_answered_once();
     Ok(book.into_journal())
 }

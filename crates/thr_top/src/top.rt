@@ -146,8 +146,8 @@ pub fn top<S: Source, K: Sink>(
     // `check` writes the canonical text of the script, or what stands in its place.
     ensures check { IsCheck words.now → IfSome (S.left source.old) (λ input. Ends (CheckAnswers input) (K.held sink.old) (K.held sink.new) result.0) }
 
-    // Where no device has a fault, the text of a script gives 0, or 5 for want of memory: for `run 1` of one that the
-    // machine runs, or 7 where its lines come to the limit.
+    // Where no device has a fault, the text of a script gives 0, or 5 for want of memory. To `run 1` that is the text of a
+    // script that the machine runs, and it gives 7 where the lines come to the limit.
     ensures run_complete { IsRunOne words.now → IfSome (S.left source.old) (λ input.
         IsRun input → ¬ (Rose (S.faults source.old) (S.faults source.new)) → ¬ (Rose (K.faults sink.old) (K.faults sink.new))
         → IsRunStatus result.0) }
@@ -161,6 +161,7 @@ pub fn top<S: Source, K: Sink>(
     ensures quiet_source { result.0 ≢ 3 → S.faults source.new ≡ S.faults source.old }
     ensures quiet_sink { result.0 ≢ 4 → K.faults sink.new ≡ K.faults sink.old }
     ensures known { (result.0 ≤ 7) × (result.0 ≢ 6) }
+    ensures only_limit { result.0 ≡ 7 → IsRunOne words.now }
 {
     if needs_workers(words) {
         run_one(alloc, source, sink)
