@@ -1,6 +1,6 @@
 //! Numbers that name a thread, a line or a declared name.
 
-/// The number of a thread, from 1 on. No number is given twice in a run (docs/machine.md, "Threads").
+/// The number of a thread, from 1 on (docs/machine.md, "Threads").
 #[derive(Clone, Copy, Debug, PartialEq, Eq, PartialOrd, Ord)]
 pub struct Tid(pub u32);
 
