@@ -13,7 +13,7 @@ use Rattle.thr_remainder.specs.Acts.{Act, Sets, Says, Chooses, Repeats, Tries, R
 use Rattle.thr_remainder.specs.Calls.{stores}
 use Rattle.thr_remainder.specs.Declarations.{interface_of}
 use Rattle.thr_remainder.specs.Remainders.{Item, Setting, Remainder, Move, Spot, Place, Nowhere, AtEnd, At, place_in, act_at}
-use Rattle.thr_remainder.specs.Replies.{stored_in, raised_by, raised_if, replied_by, replied_at, replied}
+use Rattle.thr_remainder.specs.Replies.{stored_in, shared_in, raised_by, raised_if, replied_by, replied_at, replied, writes_by, writes_at, writes}
 use Rattle.thr_remainder.specs.Starts.{still}
 use Rattle.thr_lines.specs.Layout.{line_at, last_line}
 use Rattle.thr_lines.specs.AtLines.{StatementAt}
@@ -74,6 +74,31 @@ module _ (s : Script) (k mid : Context) (call : DceCall) (reply : Reply) (h : Is
 
   pub stores_are : stores_at (place_in (remainder_of s k).items) reply ≡ stores call reply
   stores_are = ap (λ (p : Place). stores_at p reply) h.here ∙ ap (λ (a : Act). stores_by a reply) h.acts
+
+-- ---- shared variables
+
+-- What a statement writes to shared variables is what it stores in them.
+by_stores : (a : Act) (reply : Reply) → writes_by a reply ≡ shared_in (stores_by a reply)
+by_stores (Sets v e) reply = refl
+by_stores (Says e) reply = refl
+by_stores (Chooses e body other) reply = refl
+by_stores (Repeats e again) reply = refl
+by_stores (Tries body ways) reply = refl
+by_stores (Raises name) reply = refl
+by_stores RaisesAgain reply = refl
+by_stores (Calls routine e place) reply = refl
+by_stores (Returns e) reply = refl
+by_stores (Exits e) reply = refl
+by_stores (Asks call) reply = refl
+
+at_stores : (p : Place) (reply : Reply) → writes_at p reply ≡ shared_in (stores_at p reply)
+at_stores Nowhere reply = refl
+at_stores (AtEnd close x outer) reply = refl
+at_stores (At h) reply = by_stores (act_at h) reply
+
+pub writes_are : (r : Remainder) (reply : Reply) (xs : List (Var × ℤ)) → stores_at (place_in r.items) reply ≡ xs → shared_in xs ≡ writes r reply
+unfolding writes
+writes_are r reply xs e = sym (at_stores (place_in r.items) reply ∙ ap shared_in e)
 
 -- ---- no call
 

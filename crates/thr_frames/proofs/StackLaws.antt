@@ -106,7 +106,7 @@ module _ (s : Script) (k : Context) (l : ℕ) (row : Row) (good : IsGood s k) (s
   is_next_call call a is =
       let there : Context = record k { line = l } in
       let t = site s there _ (Asks call) true some a.does in
-      subst (λ (r : Remainder). IsNextCall s r call) (goes_to s k l good h).to (record { spot = spot s there _ (Asks call) t; here = place_is s there _ (Asks call) t; asks = t.acts; line = l - 1; stands = is })
+      subst (λ (r : Remainder). IsNextCall s r call) (goes_to s k l good h).to (record { spot = spot s there _ (Asks call) t; here = place_is s there _ (Asks call) t; asks = t.acts; stands = is })
 
   pub is_no_call : row ≡ (line_at s l).row → FormAt (line_at s) (last_line s) l row row.form → ((call : DceCall) → row.form ≡ form.Dce call → ⊥) → HasNoCall (remainder_of s k)
   is_no_call same a non =

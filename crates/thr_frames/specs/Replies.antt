@@ -13,6 +13,7 @@ use Rattle.thr_remainder.specs.Remainders.{Spot, Place, At, place_in, act_at, pa
 use Rattle.thr_remainder.specs.Replies.{stored_in}
 use Rattle.thr_stack.specs.declared.context.Context.{Context}
 use Rattle.thr_stack.specs.Standing.{IsGood, remainder_of, setting_of}
+use Rattle.thr_frames.specs.declared.reply.Writes.{Writes}
 use Rattle.thr_frames.specs.declared.stores.Stores.{Stores}
 use Rattle.thr_frames.specs.declared.stores.Stores.TheVariants.{Nothing, One, Two}
 
@@ -48,6 +49,16 @@ abbrev pub listed_stores : Stores → List (Var × ℤ)
 listed_stores Nothing = []
 listed_stores (One v n) = (v, n) ∷ []
 listed_stores (Two v n w m) = (v, n) ∷ (w, m) ∷ []
+
+-- This value before others, if there is one.
+abbrev pub before_others : Option (NameId × ℤ) → List (NameId × ℤ) → List (NameId × ℤ)
+before_others None xs = xs
+before_others (Some x) xs = x ∷ xs
+
+-- What a call writes to shared variables, as a list: the first before the second, each where it is there (docs/machine.md,
+-- "Replies").
+abbrev pub listed_writes : Writes → List (NameId × ℤ)
+listed_writes w = before_others w.first (before_others w.second [])
 
 -- Locals that take these values, in their order (docs/machine.md, "Replies").
 abbrev pub locals_with : List (Var × ℤ) → List ℤ → List ℤ

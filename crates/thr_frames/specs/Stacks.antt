@@ -1,5 +1,5 @@
 -- Stacks as the machine sees them: each stands for what a thread has still to do (docs/machine.md, "What is left to do").
-use Rattle.std.specs.Prelude.{◌≡◌, ℕ, ◌+◌, ◌<◌, ◌≤◌, ◌^◌, List, [], ◌∷◌, length, slice_get, Bool, true, false, ◌||◌, Option, Some, None}
+use Rattle.std.specs.Prelude.{◌≡◌, ℕ, ◌+◌, ◌-◌, ◌<◌, ◌≤◌, ◌^◌, List, [], ◌∷◌, length, slice_get, Bool, true, false, ◌||◌, Option, Some, None}
 use Rattle.thr_values.specs.declared.number.NameId.{NameId}
 use Rattle.thr_values.specs.declared.history.What.{What}
 use Rattle.thr_syntax.specs.declared.expr.Expr.{Expr}
@@ -35,8 +35,8 @@ abbrev pub IsStack : Script → StackView → Type 0
 IsStack s k = IsGood s k.context
 
 -- No frame is left: the thread was not started, or is over.
-abbrev pub IsUnstarted : StackView → Type 0
-IsUnstarted k = k.context.frames.items ≡ []
+abbrev pub HasNoFrame : StackView → Type 0
+HasNoFrame k = k.context.frames.items ≡ []
 
 -- There are numbers for so many scopes and unwindings more.
 pub record CanNumber (r : Remainder) (n : ℕ) : Type 0 where
@@ -47,7 +47,7 @@ pub record CanNumber (r : Remainder) (n : ℕ) : Type 0 where
 abbrev pub Makes : Script → Move → (old new : StackView) → (before after : List What) → Type 0
 Makes s move old new before after = contexts.Makes s move old.context new.context before after
 
--- Each scope that was opened, and each unwinding that set out, has a line of its own (docs/journal.md, "The lines").
+-- Not more scopes were opened, and not more unwindings set out, than lines were written (docs/journal.md, "The lines").
 pub record IsCounted (old new : Remainder) (before after : List What) : Type 0 where
   pub scopes : new.scopes + length before ≤ old.scopes + length after
   pub unwindings : new.unwindings + length before ≤ old.unwindings + length after
@@ -87,13 +87,12 @@ asked_by _ = None
 abbrev pub HasNoCall : Remainder → Type 0
 HasNoCall r = (spot : Spot) → place_in r.items ≡ At spot → asked_by (act_at spot) ≡ None
 
--- This call is next, and it stands at a line of the script (docs/machine.md, "Calls").
+-- This call is next, and it stands at its line of the script (docs/machine.md, "Calls").
 pub record IsNextCall (s : Script) (r : Remainder) (call : DceCall) : Type 0 where
   pub spot : Spot
   pub here : place_in r.items ≡ At spot
   pub asks : act_at spot ≡ Asks call
-  pub line : ℕ
-  pub stands : slice_get (lines_of s) line ≡ Some (form.Dce call)
+  pub stands : slice_get (lines_of s) (spot.line - 1) ≡ Some (form.Dce call)
 
 -- A line of the script sets this shared variable (docs/script.md, "Lines").
 pub record IsSet (s : Script) (name : NameId) : Type 0 where

@@ -7,10 +7,10 @@ ghost use Rattle.thr_remainder.specs.Acts.{Asks};
 ghost use Rattle.thr_remainder.specs.Calls.{stores, taken, taken_by_read};
 ghost use Rattle.thr_remainder.specs.Declarations.{interface_of};
 ghost use Rattle.thr_remainder.specs.Remainders.{place_in};
-ghost use Rattle.thr_remainder.specs.Replies.{is_eagain, is_timed_wait, raised_by, replied};
+ghost use Rattle.thr_remainder.specs.Replies.{is_eagain, is_timed_wait, raised_by, replied, shared_in, writes};
 ghost use Rattle.thr_stack.specs.Sights.{listed};
 ghost use Rattle.thr_stack.specs.Standing.{IsGood, Stands, Makes, remainder_of, setting_of};
-ghost use Rattle.thr_frames.specs.Replies.{stores_at, shared_store, first_store, second_store, listed_stores, locals_with, IsBehind};
+ghost use Rattle.thr_frames.specs.Replies.{stores_at, shared_store, first_store, second_store, listed_stores, listed_writes, locals_with, IsBehind};
 ghost use Rattle.thr_frames.specs.Stacks.{CanNumber};
 
 use crate::stores::Stores;
@@ -123,6 +123,7 @@ fn written(v: Var, n: i64) -> Option<(NameId, i64)>
 fn shared_writes(stores: Stores) -> Writes
     ensures first { result.first ≡ first_store (listed_stores stores) }
     ensures second { result.second ≡ second_store (listed_stores stores) }
+    ensures writes { listed_writes result ≡ shared_in (listed_stores stores) }
 {
     match stores {
         Stores::Nothing => Writes {
@@ -197,6 +198,7 @@ fn give_here(
     ensures replied { Makes lines.now (replied (setting_of lines.now context.old) reply.now (remainder_of lines.now context.old)) context.old context.new notes.old notes.new }
     ensures first { result.first ≡ first_store (stores_at (place_in (remainder_of lines.now context.old).items) reply.now) }
     ensures second { result.second ≡ second_store (stores_at (place_in (remainder_of lines.now context.old).items) reply.now) }
+    ensures writes { listed_writes result ≡ writes (remainder_of lines.now context.old) reply.now }
 {
     let stores = stores(call, reply);
     go_past(lines, context, call, reply, stores);
@@ -222,6 +224,7 @@ pub fn give(
     ensures replied { Makes lines.now (replied (setting_of lines.now context.old) reply.now (remainder_of lines.now context.old)) context.old context.new notes.old notes.new }
     ensures first { result.first ≡ first_store (stores_at (place_in (remainder_of lines.now context.old).items) reply.now) }
     ensures second { result.second ≡ second_store (stores_at (place_in (remainder_of lines.now context.old).items) reply.now) }
+    ensures writes { listed_writes result ≡ writes (remainder_of lines.now context.old) reply.now }
 {
     if context.frames.is_empty() {
         return shared_writes(Stores::Nothing);

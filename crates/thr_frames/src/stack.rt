@@ -6,13 +6,13 @@ ghost use Rattle.thr_syntax.specs.declared.tree.Script.{Script};
 ghost use Rattle.thr_remainder.specs.Declarations.{interface_of};
 ghost use Rattle.thr_remainder.specs.Expressions.{value_of};
 ghost use Rattle.thr_remainder.specs.Remainders.{free, place_in};
-ghost use Rattle.thr_remainder.specs.Replies.{replied};
+ghost use Rattle.thr_remainder.specs.Replies.{replied, writes};
 ghost use Rattle.thr_remainder.specs.Starts.{fresh, line_of_next, raised, exited};
 ghost use Rattle.thr_remainder.specs.Steps.{shared_step, written};
 ghost use Rattle.thr_stack.specs.Sights.{shared_of};
-ghost use Rattle.thr_frames.specs.Replies.{stores_at, first_store, second_store};
+ghost use Rattle.thr_frames.specs.Replies.{stores_at, first_store, second_store, listed_writes};
 ghost use Rattle.thr_frames.specs.Runs.{Ran, IsUndelivered, IsOutsideOnce};
-ghost use Rattle.thr_frames.specs.Stacks.{remainder_of, setting_of, most_frames, IsStack, IsUnstarted, CanNumber, CanCall, IsRoutine, Makes, IsCounted, HasNoOnce, HasNoCall, IsNextCall, IsSet};
+ghost use Rattle.thr_frames.specs.Stacks.{remainder_of, setting_of, most_frames, IsStack, HasNoFrame, CanNumber, CanCall, IsRoutine, Makes, IsCounted, HasNoOnce, HasNoCall, IsNextCall, IsSet};
 
 use crate::reply::{Writes, give};
 use crate::run::run;
@@ -67,7 +67,7 @@ impl Model for Stack {
 impl Stack {
     /// A stack of thread 0 that was not started, in which `size` frames fit.
     pub fn new(alloc: Global, size: u32) -> Result<Stack, NoMemory>
-        ensures unstarted { IfOk result (λ k. IsUnstarted k) }
+        ensures no_frame { IfOk result (λ k. HasNoFrame k) }
         ensures stack { IfOk result (λ k. (s : Script) → IsStack s k) }
         ensures setting { IfOk result (λ k. (s : Script) → setting_of s k ≡ record { script = s; me = 0; size = size }) }
         ensures most { IfOk result (λ k. most_frames k ≡ size) }
@@ -92,9 +92,9 @@ impl Stack {
 
     /// From now on so many frames fit, where the thread was not started.
     pub fn set_size(&mut self, size: u32)
-        requires unstarted { IsUnstarted self.old }
+        requires no_frame { HasNoFrame self.old }
         requires most { size ≤ most_frames self.old }
-        ensures unstarted { IsUnstarted self.new }
+        ensures no_frame { HasNoFrame self.new }
         ensures setting { (s : Script) → setting_of s self.new ≡ record (setting_of s self.old) { size = size } }
         ensures most { most_frames self.new ≡ most_frames self.old }
     {
@@ -103,8 +103,8 @@ impl Stack {
 
     /// From now on the stack is that of this thread, where it was not started. Its number is the value of `self`.
     pub fn set_me(&mut self, t: Tid)
-        requires unstarted { IsUnstarted self.old }
-        ensures unstarted { IsUnstarted self.new }
+        requires no_frame { HasNoFrame self.old }
+        ensures no_frame { HasNoFrame self.new }
         ensures setting { (s : Script) → setting_of s self.new ≡ record (setting_of s self.old) { me = t.0 } }
         ensures most { most_frames self.new ≡ most_frames self.old }
     {
@@ -114,7 +114,7 @@ impl Stack {
     /// The thread begins at this routine with this argument.
     pub fn start(&mut self, lines: &Lines, routine: NameId, arg: i64)
         requires routine { IsRoutine lines.now routine }
-        requires unstarted { IsUnstarted self.old }
+        requires no_frame { HasNoFrame self.old }
         requires room { 0 < (setting_of lines.now self.old).size }
         ensures fresh { remainder_of lines.now self.new ≡ fresh lines.now routine arg }
         ensures setting { setting_of lines.now self.new ≡ setting_of lines.now self.old }
@@ -164,8 +164,9 @@ impl Stack {
         value(lines, &self.context, e, env.shared)
     }
 
-    /// The shared statement that is next, with its line. Answers the shared variable that it sets, with the value. At a call of
-    /// the thread service nothing changes.
+    /// The step at the innermost place, which is a shared statement where the machine calls it, with its line. Answers the
+    /// shared variable that it sets, with the value. At a call of the thread service, and where no frame is left, nothing
+    /// changes.
     pub fn shared_step(
         &mut self,
         lines: &Lines,
@@ -203,6 +204,7 @@ impl Stack {
         ensures replied { Makes lines.now (replied (setting_of lines.now self.old) reply.now (remainder_of lines.now self.old)) self.old self.new notes.old notes.new }
         ensures first { result.first ≡ first_store (stores_at (place_in (remainder_of lines.now self.old).items) reply.now) }
         ensures second { result.second ≡ second_store (stores_at (place_in (remainder_of lines.now self.old).items) reply.now) }
+        ensures writes { listed_writes result ≡ writes (remainder_of lines.now self.old) reply.now }
     {
         give(lines, &mut self.context, reply, interface, notes)
     }

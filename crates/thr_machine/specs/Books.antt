@@ -54,7 +54,7 @@ pub record IsReached (b : BookView) : Type 0 where
   pub events : List Event
   pub history : History b.script b.workers (record { state = b.state; events = events; entries = b.entries; turns = b.turns })
 
--- The stack is that of thread 1 in this script, which has opened no once block and had at most so many scopes and unwindings
+-- The stack is that of thread 1 in this script, which has no once block open and had at most so many scopes and unwindings
 -- (docs/theorems.md, "The book").
 pub record IsFirstStack (s : Script) (k : StackView) (most : ℕ) : Type 0 where
   pub setting : setting_of s k ≡ first_setting s

@@ -5,7 +5,7 @@ use Rattle.thr_remainder.specs.Replies.{replied}
 use Rattle.thr_stack.specs.Standing.{IsPlace, remainder_of}
 use Rattle.thr_frames.specs.Replies.{stores_at, first_store, second_store}
 use Rattle.thr_frames.proofs.StackLaws.{nowhere_asks, none_asked}
-use Rattle.thr_frames.proofs.ReplyLaws.{gives_nothing, stores_nothing}
+use Rattle.thr_frames.proofs.ReplyLaws.{gives_nothing, stores_nothing, writes_are}
 use Rattle.thr_frames.proofs.StackLaws.{made_from}
 use Rattle.thr_frames.proofs.reply.give.Goals as goal
 
@@ -13,6 +13,14 @@ pub returns-then-is_empty-clause-replied : goal.returns-then-is_empty-clause-rep
 returns-then-is_empty-clause-replied c =
     let s = c.args.lines.now in
     let k = c.args.context.now in gives_nothing s k c.args.reply.now c.args.notes.now c.requires.good (nowhere_asks s k (c.if-is_empty.ensures.0 refl))
+
+pub returns-then-is_empty-clause-writes : goal.returns-then-is_empty-clause-writes
+returns-then-is_empty-clause-writes c =
+    let s = c.args.lines.now in
+    let k = c.args.context.now in
+    let r = remainder_of s k in
+    let reply = c.args.reply.now in
+    c.shared_writes.ensures.writes ∙ writes_are r reply [] (stores_nothing (place_in r.items) reply (nowhere_asks s k (c.if-is_empty.ensures.0 refl)))
 
 pub returns-in_default : goal.returns-in_default
 returns-in_default c =
@@ -31,4 +39,5 @@ returns-in_default c =
       replied = made_from s old k k notes notes at (λ g r. replied g reply r) (gives_nothing s k reply notes at.good none);
       first = c.shared_writes-in_default.ensures.first ∙ sym (ap first_store same);
       second = c.shared_writes-in_default.ensures.second ∙ sym (ap second_store same);
+      writes = c.shared_writes-in_default.ensures.writes ∙ writes_are (remainder_of s old) reply [] same;
     }

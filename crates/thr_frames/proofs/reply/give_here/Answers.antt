@@ -5,7 +5,8 @@ use Rattle.thr_remainder.specs.Declarations.{interface_of}
 use Rattle.thr_remainder.specs.Replies.{raised_by, replied}
 use Rattle.thr_stack.specs.declared.context.Context.{Context}
 use Rattle.thr_stack.specs.Standing.{Makes, remainder_of, setting_of}
-use Rattle.thr_frames.proofs.ReplyLaws.{gives, gives_quietly}
+use Rattle.thr_frames.specs.Replies.{listed_stores}
+use Rattle.thr_frames.proofs.ReplyLaws.{gives, gives_quietly, stores_are, writes_are}
 use Rattle.thr_frames.proofs.reply.give_here.Goals.{in-Some, in_default}
 use Rattle.thr_frames.proofs.reply.give_here.Goals as goal
 
@@ -30,3 +31,11 @@ returns-clause-replied c =
           subst (λ (x : Context). Makes s move k x before c.match-raised.notes) (sym w.context-is)
           (subst (λ (n : List What). Makes s move k mid before n) (sym w.notes-is) made)
     ]
+
+pub returns-clause-writes : goal.returns-clause-writes
+returns-clause-writes c =
+    let s = c.args.lines.now in
+    let k = c.args.context.now in
+    let reply = c.args.reply.now in
+    c.shared_writes.ensures.writes
+    ∙ writes_are (remainder_of s k) reply (listed_stores c.stores-stores.result) (stores_are s k c.go_past.new.context c.args.call.now reply c.go_past.ensures ∙ sym c.stores-stores.ensures)

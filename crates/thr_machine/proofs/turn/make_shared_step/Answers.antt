@@ -1,4 +1,4 @@
-use Rattle.std.proofs.Common.{◌+◌, ◌∙◌, ap, length, ℕ}
+use Rattle.std.proofs.Common.{◌+◌, ◌-◌, ◌∙◌, ap, length, ℕ}
 use Rattle.std.proofs.lemmas.List.{length-append}
 use Rattle.thr_remainder.specs.Steps.{shared_step}
 use Rattle.thr_stack.specs.Sights.{shared_of}
@@ -7,7 +7,7 @@ use Rattle.thr_machine.proofs.TurnLaws.{no-call-stands, shared-one}
 use Rattle.thr_machine.proofs.turn.make_shared_step.Goals as goal
 
 pub unreachable-requires : goal.unreachable-requires
-unreachable-requires c = no-call-stands c.args.lines.now c.in-Some.ensures.line c.in-Some.field-0.now c.requires.built c.in-Some.ensures.stands
+unreachable-requires c = no-call-stands c.args.lines.now (c.in-Some.ensures.spot.line - 1) c.in-Some.field-0.now c.requires.built c.in-Some.ensures.stands
 
 pub returns-clause-line : goal.returns-clause-line
 returns-clause-line c =
