@@ -10,25 +10,26 @@ use Rattle.thr_parts.specs.declared.wait.Wait.{Wait}
 use Rattle.thr_parts.specs.declared.wait.Wait.TheVariants.{Cond, Delay}
 use Rattle.thr_parts.specs.Tables.{put_if, keep_if, has, IsCanonical}
 use Rattle.thr_parts.specs.Replies.{is_blocks, is_value}
-use Rattle.thr_parts.specs.Rows.{Rows, best_of, number_in, best}
+use Rattle.thr_parts.specs.Rows.{Rows, row_of, best_of, number_in, best}
 use Rattle.thr_parts.specs.Moves.{take_out, take_out_if, block_if}
-use Rattle.thr_parts.specs.Mutexes.{Locks}
-use Rattle.thr_parts.specs.Locking.{lock, unlock, regain}
+use Rattle.thr_parts.specs.Mutexes.{Locks, waiters_row}
+use Rattle.thr_parts.specs.Locking.{lock, unlock, give_up, regain}
 use Rattle.thr_parts.specs.Conditions.{Conds, cond_init, cond_destroy, wait_of, wait, timedwait, begin_wait, delay, delay_reply}
 use Rattle.thr_parts.specs.Waking.{without_wait, some_if, thread_in, mutex_with, next_waiter, take_next, signal, pull_out, resume, wake_all}
 use Rattle.thr_parts.specs.Expiry.{due, expire}
 use Rattle.thr_parts.specs.Keys.{Onces}
 use Rattle.thr_parts.specs.OnceBlocks.{enter, undone}
 use Rattle.thr_parts.specs.Pipes.{Pipes, pipe_at, read, write}
-use Rattle.thr_parts.specs.Closing.{free_if, close_out}
+use Rattle.thr_parts.specs.Closing.{is_pipe_row, free_if, close_out}
+use Rattle.thr_parts.specs.Closing as pipes
 use Rattle.thr_parts.specs.CancelledWaits.{cancel_wait}
 use Rattle.thr_parts.proofs.MoveLaws.{canonical_block_if}
 use Rattle.thr_parts.proofs.PartLaws.{canonical_free_row}
 use Rattle.thr_rows.proofs.AgreementLaws.{Agree, from_kept, gone}
 use Rattle.thr_rows.proofs.AgreementLaws as rows
 use Rattle.thr_rows.proofs.AgreedCalls as calls
-use Rattle.thr_conds.specs.Agreement.{waiting_row, WaitsAgree}
-use Rattle.thr_conds.proofs.KeepLaws.{wait_rows, are_other, agree_in, agree_of}
+use Rattle.thr_conds.specs.Agreement.{waiting_row, if_waiting, WaitsAgree}
+use Rattle.thr_conds.proofs.KeepLaws.{wait_rows, are_other, agree_in, agree_of, no_wait, agree_take_out}
 use Rattle.thr_conds.proofs.TakingLaws.{next_by, first_by, some_wait, first_waits}
 
 -- ---- made and not made
@@ -67,6 +68,24 @@ agree_timedwait cs ls rs c m until now t rank h agrees = agree_begin cs ls rs c 
 
 pub agree_delay : (cs : Conds) (rs : Rows) (ticks now : ℤ) (t : Tid) (rank : ℕ) → WaitsAgree cs rs → WaitsAgree (delay cs rs ticks now t rank).conds (delay cs rs ticks now t rank).rows
 agree_delay cs rs ticks now t rank agrees = agree_begun_if (is_blocks (delay_reply ticks now)) cs rs (Delay (now +ℤ ticks)) t rank agrees
+
+-- The thread that is given the mutex of a wait that begins has no wait.
+begun_given_waits_not : (cs : Conds) (ls : Locks) (rs : Rows) (c m : NameId) (until : Option ℤ) (t : Tid) (rank : ℕ) (said : Reply) (u : Tid) → IsCanonical rs.seats → WaitsAgree cs rs
+    → (begin_wait cs ls rs c m until t rank said).given ≡ Some u → wait_of (begin_wait cs ls rs c m until t rank said).conds u ≡ None
+begun_given_waits_not cs ls rs c m until t rank said u h agrees e =
+    let begun : Conds = begun_if (is_blocks said) cs (Cond c m until) t in
+    let waiting : Rows = block_if (is_blocks said) rs (row.Cond c) t rank in
+    rows.best_waits_not wait_rows begun.waits waiting (row.Mutex m) u (canonical_block_if (is_blocks said) rs (row.Cond c) t rank h)
+    (agree_in begun waiting (agree_begun_if (is_blocks said) cs rs (Cond c m until) t rank agrees)) refl (from_kept (is_blocks said) (best waiting (row.Mutex m)) u e)
+
+pub given_waits_not : (cs : Conds) (ls : Locks) (rs : Rows) (c m : NameId) (t : Tid) (rank : ℕ) (u : Tid) → IsCanonical rs.seats → WaitsAgree cs rs → (wait cs ls rs c m t rank).given ≡ Some u
+    → wait_of (wait cs ls rs c m t rank).conds u ≡ None
+given_waits_not cs ls rs c m t rank u h agrees e = begun_given_waits_not cs ls rs c m None t rank (wait cs ls rs c m t rank).reply u h agrees e
+
+pub timed_given_waits_not : (cs : Conds) (ls : Locks) (rs : Rows) (c m : NameId) (until now : ℤ) (t : Tid) (rank : ℕ) (u : Tid) → IsCanonical rs.seats → WaitsAgree cs rs
+    → (timedwait cs ls rs c m until now t rank).given ≡ Some u → wait_of (timedwait cs ls rs c m until now t rank).conds u ≡ None
+timed_given_waits_not cs ls rs c m until now t rank u h agrees e =
+    begun_given_waits_not cs ls rs c m (Some until) t rank (timedwait cs ls rs c m until now t rank).reply u h agrees e
 
 -- ---- waits that end
 
@@ -163,6 +182,9 @@ agree_lock cs ls rs m t rank h alone = agree_of cs (lock ls rs m t rank).rows (c
 pub agree_unlock : (cs : Conds) (ls : Locks) (rs : Rows) (m : Option NameId) (t : Tid) → IsCanonical rs.seats → WaitsAgree cs rs → WaitsAgree cs (unlock ls rs m t).rows
 agree_unlock cs ls rs m t h agrees = agree_of cs (unlock ls rs m t).rows (calls.agree_unlock wait_rows cs.waits ls rs m t are_other h (agree_in cs rs agrees))
 
+pub agree_give_up : (cs : Conds) (ls : Locks) (rs : Rows) (m : Option NameId) → IsCanonical rs.seats → WaitsAgree cs rs → WaitsAgree cs (give_up ls rs m).rows
+agree_give_up cs ls rs m h agrees = agree_of cs (give_up ls rs m).rows (rows.agree_take_best wait_rows true cs.waits rs (waiters_row m) h (agree_in cs rs agrees) (are_other.lock m))
+
 pub agree_enter : (cs : Conds) (os : Onces) (rs : Rows) (o : NameId) (t : Tid) (rank : ℕ) → WaitsAgree cs rs → wait_of cs t ≡ None → WaitsAgree cs (enter os rs o t rank).rows
 agree_enter cs os rs o t rank h alone = agree_of cs (enter os rs o t rank).rows (calls.agree_enter wait_rows cs.waits os rs o t rank are_other (agree_in cs rs h) alone)
 
@@ -195,6 +217,26 @@ agree_close_out rank cs ps rs p h agrees =
     agree_of cs (close_out rank ps rs p).rows
     (rows.agree_free_if wait_rows opened rank cs.waits (free_if opened rank rs (row.Reader p)).rows (row.Writer p) (canonical_free_if opened rank rs (row.Reader p) h)
     (rows.agree_free_if wait_rows opened rank cs.waits rs (row.Reader p) h (agree_in cs rs agrees) refl) refl)
+
+in_pipe_row : (r : Option RowId) → is_pipe_row r ≡ true → if_waiting r ≡ None
+in_pipe_row None e = refl
+in_pipe_row (Some row.Ready) e = refl
+in_pipe_row (Some (row.Mutex m)) e = refl
+in_pipe_row (Some row.Global) e = refl
+in_pipe_row (Some (row.Cond c)) e = absurd (cc)
+in_pipe_row (Some (row.Join t)) e = refl
+in_pipe_row (Some (row.Once o)) e = refl
+in_pipe_row (Some (row.Reader p)) e = refl
+in_pipe_row (Some (row.Writer p)) e = refl
+in_pipe_row (Some row.Time) e = absurd (cc)
+
+out_of_pipe_if : (cs : Conds) (rs : Rows) (t : Tid) (b : Bool) → is_pipe_row (row_of rs t) ≡ b → WaitsAgree cs rs → WaitsAgree cs (take_out_if rs (keep_if b (Some t)))
+out_of_pipe_if cs rs t true is h =
+    let after : WaitsAgree cs (take_out rs t).rows = agree_take_out cs rs t h (no_wait cs rs t h (in_pipe_row (row_of rs t) is)) in record { same = after.same }
+out_of_pipe_if cs rs t false is h = record { same = h.same }
+
+pub agree_out_of_pipe : (cs : Conds) (ps : Pipes) (rs : Rows) (t : Tid) → WaitsAgree cs rs → WaitsAgree cs (pipes.pull_out ps rs t).rows
+agree_out_of_pipe cs ps rs t h = out_of_pipe_if cs rs t (is_pipe_row (row_of rs t)) refl h
 
 agree_cancelled : (cs : Conds) (rs : Rows) (t : Tid) (b : Bool) → is_some (wait_of cs t) ≡ b → WaitsAgree cs rs → WaitsAgree (without_wait cs (some_if b t)) (take_out rs t).rows
 agree_cancelled cs rs t true is h = agree_taken cs rs t h is

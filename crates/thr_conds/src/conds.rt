@@ -87,7 +87,7 @@ impl Conds {
     }
 
     /// The condition is made.
-    fn is_made(&self, c: NameId) -> bool
+    pub fn is_made(&self, c: NameId) -> bool
         requires known { IsName c }
         ensures { result ≡ has self.now.made c.0 }
     {

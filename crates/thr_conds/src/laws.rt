@@ -1,29 +1,31 @@
 //! The laws on conditions and rows: each is a function that does nothing and whose contract is the law.
 
-ghost use Rattle.std.specs.Prelude.{◌≡◌, ◌≤◌, ℕ, ℤ, Bool, [], List, length, Option, Some, None};
+ghost use Rattle.std.specs.Prelude.{◌≡◌, ◌≤◌, ℕ, ℤ, Bool, true, false, [], List, length, Option, Some, None};
 ghost use Rattle.thr_values.specs.declared.number.Tid.{Tid};
 ghost use Rattle.thr_values.specs.declared.number.NameId.{NameId};
+ghost use Rattle.thr_values.specs.declared.reply.Reply.TheVariants as reply;
 ghost use Rattle.thr_parts.specs.declared.row.RowId.{RowId};
 ghost use Rattle.thr_parts.specs.declared.row.RowId.TheVariants as row;
-ghost use Rattle.thr_parts.specs.Tables.{IsCanonical, keep_if};
+ghost use Rattle.thr_parts.specs.Tables.{has, IsCanonical, keep_if};
 ghost use Rattle.thr_parts.specs.Rows.{Rows, no_rows, row_of, best, best_first, most};
 ghost use Rattle.thr_parts.specs.Moves.{put_in_row, take_out, take_out_if, leave, block_in, set_rank, free_row};
 ghost use Rattle.thr_parts.specs.Dispatch.{dispatch, keeps};
 ghost use Rattle.thr_parts.specs.Mutexes.{Locks};
-ghost use Rattle.thr_parts.specs.Locking.{lock, unlock, regain};
+ghost use Rattle.thr_parts.specs.Locking.{lock, unlock, give_up, regain};
 ghost use Rattle.thr_parts.specs.Conditions.{Conds, no_conds, cond_init, cond_destroy, wait_of, wait, timedwait, delay};
-ghost use Rattle.thr_parts.specs.Waking.{signal, take_next, pull_out, resume, wake_all};
+ghost use Rattle.thr_parts.specs.Waking.{signal, take_next, pull_out, resume, wake_all, broadcast};
 ghost use Rattle.thr_parts.specs.Expiry.{due_first, expire};
 ghost use Rattle.thr_parts.specs.Keys.{Onces};
 ghost use Rattle.thr_parts.specs.OnceBlocks.{enter, undone};
 ghost use Rattle.thr_parts.specs.Pipes.{Pipes, read, write};
 ghost use Rattle.thr_parts.specs.Closing.{close_out};
+ghost use Rattle.thr_parts.specs.Closing as pipes;
 ghost use Rattle.thr_parts.specs.CancelledWaits.{cancel_wait};
 ghost use Rattle.thr_rows.specs.Room.{HasRoom};
 ghost use Rattle.thr_conds.specs.Agreement.{if_waiting, WaitsAgree};
-ghost use Rattle.thr_conds.specs.Taking.{taken_then};
+ghost use Rattle.thr_conds.specs.Taking.{taken_then, nobody_woken, taken_then_broadcast};
 
-/// A broadcast is what is woken by taking the next waiter until none is left.
+/// What a broadcast wakes is what is woken by taking the next waiter until none is left.
 #[tactic(auto, using(crate::proofs::TakingLaws::broadcast_none, crate::proofs::TakingLaws::broadcast_next))]
 pub fn broadcasts_take_one_waiter_at_a_time()
     ensures none { (rank : Tid → ℕ) (cs : Conds) (ls : Locks) (rs : Rows) (c : NameId) → IsCanonical rs.seats
@@ -34,6 +36,24 @@ pub fn broadcasts_take_one_waiter_at_a_time()
         → IsCanonical rs.seats → (take_next cs rs c).waiter ≡ Some (t, m)
         → wake_all rank cs ls rs (best_first rs (row.Cond c))
         ≡ taken_then rank (take_next cs rs c).conds ls (take_next cs rs c).rows t (Some m) (λ _ rows. best_first rows (row.Cond c)) }
+{}
+
+/// A broadcast on a condition that isn't made is refused and changes nothing. On one that is made it is `ok`, and does what these
+/// calls do one after the other: the next waiter is taken and gets its mutex or waits for it, until none is left.
+#[tactic(auto, using(crate::proofs::BroadcastLaws::unmade, crate::proofs::BroadcastLaws::nobody, crate::proofs::BroadcastLaws::next))]
+pub fn broadcasts_wake_waiters_as_calls_do()
+    ensures unmade { (rank : Tid → ℕ) (cs : Conds) (ls : Locks) (rs : Rows) (c : NameId) → has cs.made c.0 ≡ false
+        → broadcast rank cs ls rs c ≡ record { reply = reply.Einval; woken = nobody_woken cs ls rs } }
+    ensures none { (rank : Tid → ℕ) (cs : Conds) (ls : Locks) (rs : Rows) (c : NameId) → IsCanonical rs.seats
+        → WaitsAgree cs rs → has cs.made c.0 ≡ true → (take_next cs rs c).waiter ≡ None
+        → broadcast rank cs ls rs c ≡ record { reply = reply.Done; woken = nobody_woken cs ls rs } }
+    ensures next { (rank : Tid → ℕ) (cs : Conds) (ls : Locks) (rs : Rows) (c : NameId) (t : Tid) (m : NameId)
+        → IsCanonical rs.seats → has cs.made c.0 ≡ true → (take_next cs rs c).waiter ≡ Some (t, m)
+        → broadcast rank cs ls rs c
+        ≡ record {
+          reply = reply.Done;
+          woken = taken_then_broadcast rank (take_next cs rs c).conds ls (take_next cs rs c).rows t m c;
+        } }
 {}
 
 /// A move of the clock wakes what is woken by taking the best thread whose time has come until none is left.
@@ -76,9 +96,9 @@ pub fn rows_go_on_to_agree_on_waits()
         → WaitsAgree cs rs → if_waiting (Some r) ≡ None → WaitsAgree cs (free_row rank rs r).rows }
 {}
 
-/// They go on to agree after each call on conditions and times. A thread that was taken by one waits no more, so that it can
-/// be put into its next row.
-#[tactic(auto, using(crate::proofs::CallLaws::agree_init, crate::proofs::CallLaws::agree_destroy, crate::proofs::CallLaws::agree_wait, crate::proofs::CallLaws::agree_timedwait, crate::proofs::CallLaws::agree_delay, crate::proofs::CallLaws::agree_signal, crate::proofs::CallLaws::agree_take_next, crate::proofs::CallLaws::agree_pull_out, crate::proofs::CallLaws::agree_expire, crate::proofs::CallLaws::agree_resume, crate::proofs::CallLaws::agree_wake_all, crate::proofs::CallLaws::signalled_waits_not, crate::proofs::CallLaws::taken_next_waits_not, crate::proofs::CallLaws::pulled_out, crate::proofs::CallLaws::expired_waits_not))]
+/// They go on to agree after each call on conditions and times. A thread that was taken by one, or was given the mutex of a wait
+/// that begins, waits no more, so that it can be put into its next row.
+#[tactic(auto, using(crate::proofs::CallLaws::agree_init, crate::proofs::CallLaws::agree_destroy, crate::proofs::CallLaws::agree_wait, crate::proofs::CallLaws::agree_timedwait, crate::proofs::CallLaws::agree_delay, crate::proofs::CallLaws::agree_signal, crate::proofs::CallLaws::agree_take_next, crate::proofs::CallLaws::agree_pull_out, crate::proofs::CallLaws::agree_expire, crate::proofs::CallLaws::agree_resume, crate::proofs::CallLaws::agree_wake_all, crate::proofs::CallLaws::signalled_waits_not, crate::proofs::CallLaws::taken_next_waits_not, crate::proofs::CallLaws::pulled_out, crate::proofs::CallLaws::expired_waits_not, crate::proofs::CallLaws::given_waits_not, crate::proofs::CallLaws::timed_given_waits_not))]
 pub fn calls_on_conditions_keep_waits_in_agreement()
     ensures init { (cs : Conds) (rs : Rows) (c : NameId) → WaitsAgree cs rs → WaitsAgree (cond_init cs c).conds rs }
     ensures destroy { (cs : Conds) (rs : Rows) (c : NameId) → WaitsAgree cs rs
@@ -109,6 +129,13 @@ pub fn calls_on_conditions_keep_waits_in_agreement()
     ensures pulled_out { (cs : Conds) (rs : Rows) (t : Tid) → wait_of (pull_out cs rs t).conds t ≡ None }
     ensures expired { (cs : Conds) (rs : Rows) (now : ℤ) (t : Tid) (m : Option NameId)
         → (expire cs rs now).who ≡ Some (t, m) → wait_of (expire cs rs now).conds t ≡ None }
+    ensures given { (cs : Conds) (ls : Locks) (rs : Rows) (c m : NameId) (t : Tid) (rank : ℕ) (u : Tid)
+        → IsCanonical rs.seats → WaitsAgree cs rs → (wait cs ls rs c m t rank).given ≡ Some u
+        → wait_of (wait cs ls rs c m t rank).conds u ≡ None }
+    ensures timed_given { (cs : Conds) (ls : Locks) (rs : Rows) (c m : NameId) (until now : ℤ) (t : Tid) (rank : ℕ)
+        (u : Tid) → IsCanonical rs.seats → WaitsAgree cs rs
+        → (timedwait cs ls rs c m until now t rank).given ≡ Some u
+        → wait_of (timedwait cs ls rs c m until now t rank).conds u ≡ None }
 {}
 
 /// Where a thread has left its wait there is room for it in another row. Signals and broadcasts have a law of `thr_rows`.
@@ -129,6 +156,8 @@ pub fn calls_on_other_objects_keep_waits_in_agreement()
         → wait_of cs t ≡ None → WaitsAgree cs (lock ls rs m t rank).rows }
     ensures unlock { (cs : Conds) (ls : Locks) (rs : Rows) (m : Option NameId) (t : Tid) → IsCanonical rs.seats
         → WaitsAgree cs rs → WaitsAgree cs (unlock ls rs m t).rows }
+    ensures give_up { (cs : Conds) (ls : Locks) (rs : Rows) (m : Option NameId) → IsCanonical rs.seats
+        → WaitsAgree cs rs → WaitsAgree cs (give_up ls rs m).rows }
     ensures regain { (cs : Conds) (ls : Locks) (rs : Rows) (m : NameId) (t : Tid) (rank : ℕ) → WaitsAgree cs rs
         → wait_of cs t ≡ None → WaitsAgree cs (regain ls rs m t rank).rows }
     ensures enter { (cs : Conds) (os : Onces) (rs : Rows) (o : NameId) (t : Tid) (rank : ℕ) → WaitsAgree cs rs
@@ -142,6 +171,8 @@ pub fn calls_on_other_objects_keep_waits_in_agreement()
         → WaitsAgree cs (write ps rs p v t rank).rows }
     ensures close_out { (rank : Tid → ℕ) (cs : Conds) (ps : Pipes) (rs : Rows) (p : NameId) → IsCanonical rs.seats
         → WaitsAgree cs rs → WaitsAgree cs (close_out rank ps rs p).rows }
+    ensures pull_out { (cs : Conds) (ps : Pipes) (rs : Rows) (t : Tid) → WaitsAgree cs rs
+        → WaitsAgree cs (pipes.pull_out ps rs t).rows }
     ensures cancel_wait { (rank : Tid → ℕ) (cs : Conds) (ps : Pipes) (ls : Locks) (rs : Rows) (t : Tid)
         → WaitsAgree cs rs
         → WaitsAgree (cancel_wait rank cs ps ls rs t).conds (cancel_wait rank cs ps ls rs t).rows }

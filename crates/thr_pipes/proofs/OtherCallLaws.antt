@@ -10,14 +10,14 @@ use Rattle.thr_parts.specs.Tables.{Table, get, has, keep_if, IsCanonical}
 use Rattle.thr_parts.specs.Replies.{is_blocks}
 use Rattle.thr_parts.specs.Rows.{Rows, row_of, best}
 use Rattle.thr_parts.specs.Moves.{take_out, block_if}
-use Rattle.thr_parts.specs.Mutexes.{Locks}
-use Rattle.thr_parts.specs.Locking.{lock, unlock, regain}
+use Rattle.thr_parts.specs.Mutexes.{Locks, waiters_row}
+use Rattle.thr_parts.specs.Locking.{lock, unlock, give_up, regain}
 use Rattle.thr_parts.specs.Conditions.{Conds, wait, timedwait, begin_wait, delay}
 use Rattle.thr_parts.specs.Waking.{thread_in, mutex_with, next_waiter, take_next, signal, resume}
 use Rattle.thr_parts.specs.Keys.{Onces}
 use Rattle.thr_parts.specs.OnceBlocks.{enter, undone}
 use Rattle.thr_parts.specs.Pipes.{Pipes, writing_without}
-use Rattle.thr_parts.specs.Closing.{is_pipe_row}
+use Rattle.thr_parts.specs.Closing.{is_pipe_row, pull_out}
 use Rattle.thr_parts.specs.CancelledWaits.{cancel_wait}
 use Rattle.thr_parts.proofs.MoveLaws.{canonical_block_if}
 use Rattle.thr_rows.proofs.AgreementLaws.{Agree, agree_left, gone, from_kept}
@@ -34,6 +34,9 @@ agree_lock ps ls rs m t rank h alone = agree_of ps (lock ls rs m t rank).rows (c
 
 pub agree_unlock : (ps : Pipes) (ls : Locks) (rs : Rows) (m : Option NameId) (t : Tid) → IsCanonical rs.seats → WritersAgree ps rs → WritersAgree ps (unlock ls rs m t).rows
 agree_unlock ps ls rs m t h agrees = agree_of ps (unlock ls rs m t).rows (calls.agree_unlock writer_rows ps.writing ls rs m t are_other h (agree_in ps rs agrees))
+
+pub agree_give_up : (ps : Pipes) (ls : Locks) (rs : Rows) (m : Option NameId) → IsCanonical rs.seats → WritersAgree ps rs → WritersAgree ps (give_up ls rs m).rows
+agree_give_up ps ls rs m h agrees = agree_of ps (give_up ls rs m).rows (rows.agree_take_best writer_rows true ps.writing rs (waiters_row m) h (agree_in ps rs agrees) (are_other.lock m))
 
 pub agree_regain : (ps : Pipes) (ls : Locks) (rs : Rows) (m : NameId) (t : Tid) (rank : ℕ) → WritersAgree ps rs → writing_of ps t ≡ None → WritersAgree ps (regain ls rs m t rank).rows
 agree_regain ps ls rs m t rank h alone = agree_of ps (regain ls rs m t rank).rows (calls.agree_regain writer_rows ps.writing ls rs m t rank are_other (agree_in ps rs h) alone)
@@ -120,6 +123,10 @@ cancelled_if true m rs t is h = record { agrees = agree_left writer_rows m rs t 
 cancelled_if false m rs t is h =
     let alone : get m t.0 ≡ None = rows.no_wait writer_rows m rs t h (no_pipe_row (row_of rs t) is) in
     record { agrees = rows.agree_take_out writer_rows m rs t h alone; alone = alone }
+
+pub pulled_out : (ps : Pipes) (rs : Rows) (t : Tid) → WritersAgree ps rs → writing_of (pull_out ps rs t).pipes t ≡ None
+pulled_out ps rs t h =
+    let out : IsOut (pull_out ps rs t).pipes.writing rs t = cancelled_if (is_pipe_row (row_of rs t)) ps.writing rs t refl (agree_in ps rs h) in out.alone
 
 pub agree_cancel_wait : (rank : Tid → ℕ) (ps : Pipes) (cs : Conds) (ls : Locks) (rs : Rows) (t : Tid) → WritersAgree ps rs
     → WritersAgree (cancel_wait rank cs ps ls rs t).pipes (cancel_wait rank cs ps ls rs t).rows

@@ -12,7 +12,7 @@ ghost use Rattle.thr_parts.specs.Rows.{Rows, no_rows, row_of, best};
 ghost use Rattle.thr_parts.specs.Moves.{put_in_row, take_out, take_out_if, leave, block_in, set_rank, free_row};
 ghost use Rattle.thr_parts.specs.Dispatch.{dispatch, keeps};
 ghost use Rattle.thr_parts.specs.Mutexes.{Locks};
-ghost use Rattle.thr_parts.specs.Locking.{lock, unlock, regain};
+ghost use Rattle.thr_parts.specs.Locking.{lock, unlock, give_up, regain};
 ghost use Rattle.thr_parts.specs.Conditions.{Conds, wait, timedwait, delay};
 ghost use Rattle.thr_parts.specs.Waking.{take_next, signal, resume};
 ghost use Rattle.thr_parts.specs.Keys.{Onces};
@@ -68,8 +68,9 @@ pub fn rows_go_on_to_agree_on_writers()
         → WritersAgree ps rs → if_writing (Some r) ≡ None → WritersAgree ps (free_row rank rs r).rows }
 {}
 
-/// They go on to agree after each call on pipes, where a pipe that is closed is closed with its waiters.
-#[tactic(auto, using(crate::proofs::CallLaws::agree_read, crate::proofs::CallLaws::agree_write, crate::proofs::CallLaws::agree_pull_out, crate::proofs::FreedLaws::agree_close_out))]
+/// They go on to agree after each call on pipes, where a pipe that is closed is closed with its waiters. A thread that a read or
+/// a write took out of its row, or that was pulled out, doesn't wait as a writer, so that it can be put into its next row.
+#[tactic(auto, using(crate::proofs::CallLaws::agree_read, crate::proofs::CallLaws::agree_write, crate::proofs::CallLaws::agree_pull_out, crate::proofs::FreedLaws::agree_close_out, crate::proofs::OtherCallLaws::pulled_out))]
 pub fn calls_on_pipes_keep_writers_in_agreement()
     ensures read { (ps : Pipes) (rs : Rows) (p : NameId) (t : Tid) (rank : ℕ) → IsCanonical rs.seats
         → WritersAgree ps rs → writing_of ps t ≡ None
@@ -81,16 +82,26 @@ pub fn calls_on_pipes_keep_writers_in_agreement()
     ensures close_out { (rank : Tid → ℕ) (ps : Pipes) (rs : Rows) (p : NameId) → IsCanonical rs.seats
         → IsCanonical ps.writing → WritersAgree ps rs
         → WritersAgree (close_out rank ps rs p).pipes (close_out rank ps rs p).rows }
+    ensures relieved { (ps : Pipes) (rs : Rows) (p : NameId) (t : Tid) (rank : ℕ) (u : Tid)
+        → (read ps rs p t rank).relieved ≡ Some u → writing_of (read ps rs p t rank).pipes u ≡ None }
+    ensures reader { (ps : Pipes) (rs : Rows) (p : NameId) (v : ℤ) (t : Tid) (rank : ℕ) (u : Tid)
+        → IsCanonical rs.seats → WritersAgree ps rs → (write ps rs p v t rank).reader ≡ Some u
+        → writing_of (write ps rs p v t rank).pipes u ≡ None }
+    ensures pulled_out { (ps : Pipes) (rs : Rows) (t : Tid) → WritersAgree ps rs
+        → writing_of (pull_out ps rs t).pipes t ≡ None }
 {}
 
-/// They go on to agree after each call on other objects, by a thread that doesn't wait as a writer. A thread that was taken out
-/// of the row of a condition doesn't wait so, so that it can be put into its next row.
+/// They go on to agree after each call on other objects that is named here, by a thread that doesn't wait as a writer. A thread that
+/// was taken out of the row of a condition doesn't wait so, so that it can be put into its next row. Of the other calls that end
+/// waits on conditions and for times `thr_ended_waits` speaks.
 #[tactic(auto, using(crate::proofs::OtherCallLaws::agree_lock, crate::proofs::OtherCallLaws::agree_unlock, crate::proofs::OtherCallLaws::agree_regain, crate::proofs::OtherCallLaws::agree_resume, crate::proofs::OtherCallLaws::agree_enter, crate::proofs::OtherCallLaws::agree_wait, crate::proofs::OtherCallLaws::agree_timedwait, crate::proofs::OtherCallLaws::agree_signal, crate::proofs::OtherCallLaws::agree_take_next, crate::proofs::OtherCallLaws::signalled_writes_not, crate::proofs::OtherCallLaws::taken_next_writes_not, crate::proofs::OtherCallLaws::agree_cancel_wait))]
 pub fn calls_on_other_objects_keep_writers_in_agreement()
     ensures lock { (ps : Pipes) (ls : Locks) (rs : Rows) (m : Option NameId) (t : Tid) (rank : ℕ) → WritersAgree ps rs
         → writing_of ps t ≡ None → WritersAgree ps (lock ls rs m t rank).rows }
     ensures unlock { (ps : Pipes) (ls : Locks) (rs : Rows) (m : Option NameId) (t : Tid) → IsCanonical rs.seats
         → WritersAgree ps rs → WritersAgree ps (unlock ls rs m t).rows }
+    ensures give_up { (ps : Pipes) (ls : Locks) (rs : Rows) (m : Option NameId) → IsCanonical rs.seats
+        → WritersAgree ps rs → WritersAgree ps (give_up ls rs m).rows }
     ensures regain { (ps : Pipes) (ls : Locks) (rs : Rows) (m : NameId) (t : Tid) (rank : ℕ) → WritersAgree ps rs
         → writing_of ps t ≡ None → WritersAgree ps (regain ls rs m t rank).rows }
     ensures resume { (rank : Tid → ℕ) (ps : Pipes) (ls : Locks) (rs : Rows) (t : Tid) (m : Option NameId)

@@ -1,6 +1,5 @@
 //! Tests of the crates below the top call: that memory is found, and what else no clause says. They stand in a crate of their own,
-//! since what a crate proves of its types' way between threads can't be read where its tests are built
-//! (docs/development.md, "Tests").
+//! since some can't be built beside the crate that they try (docs/development.md, "Tests").
 #![tactic(auto)]
 
 #[cfg(test)]

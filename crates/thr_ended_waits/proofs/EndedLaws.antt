@@ -23,7 +23,7 @@ use Rattle.thr_conds.specs.Agreement.{WaitsAgree}
 use Rattle.thr_conds.proofs.TakingLaws.{first_by, first_waits}
 use Rattle.thr_pipes.specs.Agreement.{writing_of, WritersAgree}
 use Rattle.thr_pipes.proofs.KeepLaws.{writer_rows, are_other, agree_in, agree_of}
-use Rattle.thr_waits.proofs.ApartLaws.{waits_or_writes}
+use Rattle.thr_ended_waits.proofs.ApartLaws.{waits_or_writes}
 
 there : {A : Type 0} (o : Option A) → is_some o ≡ true → (x : A) × (o ≡ Some x)
 there None e = absurd (cc)
