@@ -102,6 +102,7 @@ impl Keys {
         ensures keys { self.new.keys ≡ self.old.keys }
         ensures refused { OnErr result (self.new ≡ self.old) }
         ensures full { OnErr result (self.old.room ≡ 0) }
+        ensures kept { self.old.room ≤ self.new.room }
     {
         match self.values.reserve(1) {
             Ok(()) => Ok(()),

@@ -1,5 +1,6 @@
 //! The calls on once blocks and keys.
-ghost use Rattle.std.specs.Prelude.{◌≡◌, ◌+◌, ◌≤◌, IfOk, OnOk, OnErr};
+ghost use Rattle.std.specs.Prelude.{◌≡◌, ◌+◌, ◌≤◌, IfOk, IfNone, OnOk, OnErr};
+ghost use Rattle.thr_values.specs.declared.reply.Reply.TheVariants.{Einval};
 ghost use Rattle.thr_parts.specs.Keys.{no_onces, keycreate, setspecific, getspecific, next_destructor};
 ghost use Rattle.thr_parts.specs.OnceBlocks.{enter, done, undone};
 ghost use Rattle.thr_tables.specs.Ranges.{IsName};
@@ -49,6 +50,7 @@ impl Onces {
         ensures same { self.new.state ≡ self.old.state }
         ensures refused { OnErr result (self.new ≡ self.old) }
         ensures full { OnErr result (self.old.room ≡ 0) }
+        ensures kept { self.old.room ≤ self.new.room }
     {
         self.keys.make_room()
     }
@@ -131,6 +133,7 @@ impl Onces {
         requires place { HasRoomForValue self.old }
         ensures call { record { reply = result; onces = self.new.state } ≡ setspecific self.old.state k t value }
         ensures room { self.old.room ≤ self.new.room + 1 }
+        ensures refused { result ≡ Einval → self.new ≡ self.old }
     {
         if !self.keys.is_made(k) {
             return Reply::Einval;
@@ -154,6 +157,7 @@ impl Onces {
     pub fn next_destructor(&mut self, t: Tid) -> Option<(NameId, NameId, i64)>
         ensures call { record { onces = self.new.state; call = result } ≡ next_destructor self.old.state t }
         ensures room { self.old.room ≤ self.new.room }
+        ensures none { IfNone result (self.new ≡ self.old) }
     {
         match self.keys.next_call(t) {
             None => None,

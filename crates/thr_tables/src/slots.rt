@@ -1,6 +1,7 @@
 //! A table by names: a slot for each.
-ghost use Rattle.std.specs.Prelude.{◌≡◌, ◌<◌, IfOk, IfNone, is_some, vec_len, option_copied};
-ghost use Rattle.thr_parts.specs.Tables.{names, none, get, has, put, cut};
+ghost use Rattle.std.specs.Prelude.{◌≡◌, IfOk, IfNone, is_some, vec_len, option_copied};
+ghost use Rattle.thr_parts.specs.Tables.{none, get, has, put, cut};
+ghost use Rattle.thr_tables.specs.Ranges.{IsName};
 
 use std::alloc::Global;
 use std::marker::Model;
@@ -44,7 +45,7 @@ impl<T: Drop> Slots<T> {
 
     /// What stands at the name, lent.
     pub fn lend(&self, name: NameId) -> Option<&T>
-        requires known { name.0 < names }
+        requires known { IsName name }
         ensures value { option_copied result ≡ get self.now name.0 }
         ensures known { is_some result ≡ has self.now name.0 }
     {
@@ -53,7 +54,7 @@ impl<T: Drop> Slots<T> {
 
     /// The value stands at the name from now on.
     pub fn put(&mut self, name: NameId, value: T)
-        requires known { name.0 < names }
+        requires known { IsName name }
         ensures { self.new ≡ put self.old name.0 value }
     {
         self.items[name.0 as usize] = Some(value);
@@ -62,7 +63,7 @@ impl<T: Drop> Slots<T> {
     /// Nothing stands at the name from now on, and the answer is what stood there. Where nothing did the table stays. So a
     /// value is changed that isn't `Copy`: it is taken, changed and put back.
     pub fn take(&mut self, name: NameId) -> Option<T>
-        requires known { name.0 < names }
+        requires known { IsName name }
         ensures value { result ≡ get self.old name.0 }
         ensures known { is_some result ≡ has self.old name.0 }
         ensures table { self.new ≡ cut self.old name.0 }
@@ -74,7 +75,7 @@ impl<T: Drop> Slots<T> {
 
     /// Nothing stands at the name from now on.
     pub fn cut(&mut self, name: NameId)
-        requires known { name.0 < names }
+        requires known { IsName name }
         ensures { self.new ≡ cut self.old name.0 }
     {
         self.items[name.0 as usize] = None;
@@ -84,7 +85,7 @@ impl<T: Drop> Slots<T> {
 impl<T: Copy> Slots<T> {
     /// What stands at the name.
     pub fn get(&self, name: NameId) -> Option<T>
-        requires known { name.0 < names }
+        requires known { IsName name }
         ensures value { result ≡ get self.now name.0 }
         ensures known { is_some result ≡ has self.now name.0 }
     {
