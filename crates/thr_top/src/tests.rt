@@ -3,8 +3,6 @@
 use crate::command::{Status, Word};
 use crate::top::top;
 use std::alloc::Global;
-use std::io;
-use std::io::{Read, Write};
 use std::test::Fail;
 use thr_wire::fault::WireFault;
 use thr_wire::good::{GoodSink, GoodSource};
@@ -588,49 +586,5 @@ fn standard_devices_move_bytes(rt: HostRuntime) -> Result<(), Fail> {
     let mut sink = StdSink::new(&mut written);
     assert!(rt; write_all(&mut sink, SEVEN).is_ok());
     assert_eq!(rt; written.as_slice(), SEVEN);
-    Ok(())
-}
-
-/// A reader and a writer that always fail.
-#[derive(Drop)]
-struct Broken;
-
-impl Read for Broken {
-    fn read(&mut self, _: &mut [u8]) -> io::Result<usize> {
-        Err(io::Error::from(io::ErrorKind::Other))
-    }
-}
-
-impl Write for Broken {
-    fn write(&mut self, _: &[u8]) -> io::Result<usize> {
-        Err(io::Error::from(io::ErrorKind::Other))
-    }
-
-    fn flush(&mut self) -> io::Result<()> {
-        Ok(())
-    }
-}
-
-#[test]
-fn standard_devices_tell_their_faults(rt: HostRuntime) -> Result<(), Fail> {
-    let alloc = rt.alloc();
-    let words = words_of(alloc, "run 1")?;
-    let mut sink = GoodSink::new(alloc);
-    let Status(unread) = top(
-        alloc,
-        words.as_slice(),
-        &mut StdSource::new(Broken),
-        &mut sink,
-    );
-    assert_eq!(rt; unread, 3);
-    assert!(rt; sink.as_slice().is_empty());
-    let mut source = GoodSource::new(Vec::from_slice(alloc, SEVEN)?);
-    let Status(unwritten) = top(
-        alloc,
-        words.as_slice(),
-        &mut source,
-        &mut StdSink::new(Broken),
-    );
-    assert_eq!(rt; unwritten, 4);
     Ok(())
 }
