@@ -37,6 +37,7 @@ fn asynchronous(mode: Mode) -> bool
 }
 
 /// An unwinding under way goes outward, unless it is at a once block.
+#[inline(always)]
 fn go_outward(lines: &Lines, context: &mut Context, notes: &mut Notes)
     requires good { IsGood lines.now context.old }
     requires room { length notes.old < 136 }
@@ -55,6 +56,7 @@ fn go_outward(lines: &Lines, context: &mut Context, notes: &mut Notes)
 }
 
 /// The same, and then goes to the line of the next step.
+#[inline(always)]
 fn advance(lines: &Lines, context: &mut Context, notes: &mut Notes)
     requires good { IsGood lines.now context.old }
     requires room { length notes.old < 136 }
@@ -70,6 +72,7 @@ fn advance(lines: &Lines, context: &mut Context, notes: &mut Notes)
 }
 
 /// One step of a run, or what ends it.
+#[inline(always)]
 fn pass(lines: &Lines, context: &mut Context, mode: Mode, notes: &mut Notes) -> Option<Stopped>
     requires good { IsGood lines.now context.old }
     requires calls { CanCall lines.now }
@@ -122,7 +125,9 @@ fn pass(lines: &Lines, context: &mut Context, mode: Mode, notes: &mut Notes) -> 
     }
 }
 
-/// The quiet part of a turn: at most 64 quiet steps, and the unwindings between them.
+/// The quiet part of a turn: at most 64 quiet steps, and the unwindings between them. A quiet step is inlined whole into this
+/// loop and takes no call; what is rare, as an unwinding, stays one.
+#[inline(never)]
 pub fn run(lines: &Lines, context: &mut Context, mode: Mode, notes: &mut Notes) -> Stopped
     requires good { IsGood lines.now context.old }
     requires calls { CanCall lines.now }

@@ -7,6 +7,7 @@ use thr_syntax::expr::Op;
 use thr_values::exception::{Exc, INTDIV_E, INTOVF_E};
 
 /// 1 where it holds, else 0.
+#[inline(always)]
 pub fn truth(holds: bool) -> i64
     ensures { result ≡ truth holds }
 {
@@ -14,6 +15,7 @@ pub fn truth(holds: bool) -> i64
 }
 
 /// A condition is true where its value isn't 0.
+#[inline(always)]
 pub fn is_true(n: i64) -> bool
     ensures { result ≡ is_true n }
 {
@@ -21,6 +23,7 @@ pub fn is_true(n: i64) -> bool
 }
 
 /// What an operator gives of two numbers (docs/script.md, "Expressions").
+#[inline(always)]
 pub fn apply(op: Op, a: i64, b: i64) -> Result<i64, Exc>
     ensures { result ≡ applied op a b }
 {

@@ -1,6 +1,8 @@
 //! What the forms of lines say of the statements on them.
 
 ghost use Rattle.std.specs.Prelude.{◌≡◌, ◌++◌, ◌+◌, ◌<◌, length, None, Some, Ok, MatchOption};
+ghost use Rattle.std.specs.List.{list_any};
+ghost use Rattle.thr_syntax.specs.Shared.{is_shared_variable, variables_of};
 ghost use Rattle.thr_remainder.specs.Calls.{is_point, shape_of};
 ghost use Rattle.thr_stack.specs.Forms.{expression_of, needs_frame, shares, ends, told_by, write_from};
 
@@ -12,6 +14,7 @@ use thr_values::history::What;
 use thr_values::number::{Line, NameId};
 
 /// The expression of a statement that isn't a call of the thread service.
+#[inline(always)]
 pub fn expression(form: &Form) -> Option<&Expr>
     ensures { MatchOption result (expression_of form.now ≡ None) (λ e. expression_of form.now ≡ Some e.now) }
 {
@@ -28,13 +31,40 @@ pub fn expression(form: &Form) -> Option<&Expr>
 }
 
 /// Whether the step of a statement with an expression needs a frame.
+#[inline(always)]
 pub fn needs_frame(form: &Form) -> bool
     ensures { result ≡ needs_frame form.now }
 {
     matches!(form, Form::Call(_, _, _))
 }
 
+/// Whether a shared variable stands in an operand. A leaf takes no call.
+#[inline(always)]
+#[tactic(auto, using(thr_syntax::proofs::SharedLaws::reads_shared_laws))]
+fn operand_reads(e: &Expr) -> bool
+    ensures { result ≡ list_any is_shared_variable (variables_of e.now) }
+{
+    match e {
+        Expr::Num(_) | Expr::Var(Var::Local(_)) => false,
+        Expr::Var(Var::Shared(_)) => true,
+        _ => e.reads_shared(),
+    }
+}
+
+/// Whether a shared variable stands in an expression. Where the operands are leaves, it takes no call.
+#[inline(always)]
+#[tactic(auto, using(thr_syntax::proofs::SharedLaws::reads_shared_laws))]
+fn reads(e: &Expr) -> bool
+    ensures { result ≡ list_any is_shared_variable (variables_of e.now) }
+{
+    match e {
+        Expr::Two(_, a, b) => operand_reads(a.get()) || operand_reads(b.get()),
+        _ => e.reads_shared(),
+    }
+}
+
 /// Whether the statement of a line is shared.
+#[inline(always)]
 pub fn shares(form: &Form) -> bool
     ensures { result ≡ shares form.now }
 {
@@ -45,12 +75,13 @@ pub fn shares(form: &Form) -> bool
         | Form::While(e)
         | Form::Call(_, e, _)
         | Form::Return(e)
-        | Form::Exit(e) => e.reads_shared(),
+        | Form::Exit(e) => reads(e),
         _ => false,
     }
 }
 
 /// Whether no statement stands at a line.
+#[inline(always)]
 pub fn ends(form: &Form) -> bool
     ensures { result ≡ ends form.now }
 {
@@ -104,6 +135,7 @@ pub fn tell(notes: &mut Notes, form: &Form, line: Line, n: i64)
 }
 
 /// The shared variable that a statement sets, with the value of its expression.
+#[inline(always)]
 pub fn write_of(form: &Form, n: i64) -> Option<(NameId, i64)>
     ensures { result ≡ write_from form.now (Ok n) }
 {

@@ -19,6 +19,7 @@ impl Locals {
     }
 
     /// The local at this place, and 0 where there is none.
+    #[inline(always)]
     pub fn get(&self, p: u8) -> i64
         ensures { result ≡ unwrap_or (slice_get (listed self.now) p) (pos 0) }
     {
@@ -31,6 +32,7 @@ impl Locals {
 
     #[tactic(auto, using(crate::proofs::LocalLaws::take_set))]
     /// Sets the local at this place, if there is one.
+    #[inline(always)]
     pub fn set(&mut self, p: u8, n: i64)
         ensures { listed self.new ≡ slice_set (listed self.old) p n }
     {

@@ -110,6 +110,7 @@ fn drop_frame(context: &mut Context, frame: &Frame)
 
 /// An unwinding that is under way goes outward until a body begins, it is lost, it comes to a once block, or no frame is
 /// left.
+#[inline(never)]
 pub fn settle(lines: &Lines, context: &mut Context, notes: &mut Notes, u: Unwinding)
     requires good { IsGood lines.now context.old }
     requires under_way { context.old.under_way ≡ Some u }

@@ -44,6 +44,7 @@ fn place(lines: &Lines, line: u32) -> u32
 }
 
 /// The line of the next step, where a frame is left.
+#[inline(always)]
 pub fn line_of_step(lines: &Lines, context: &Context) -> u32
     requires good { IsGood lines.now context.now }
     requires some { context.now.frames.items ≢ [] }
@@ -53,6 +54,7 @@ pub fn line_of_step(lines: &Lines, context: &Context) -> u32
 }
 
 /// Goes to the line of the next step.
+#[inline(always)]
 pub fn go_to_step(lines: &Lines, context: &mut Context)
     requires { IsGood lines.now context.old }
     ensures { IsAtStep lines.now context.old context.new }

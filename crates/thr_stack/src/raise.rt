@@ -24,6 +24,7 @@ pub fn set_out(context: &mut Context, cause: Cause) -> u64
 }
 
 /// An exception is raised.
+#[inline(never)]
 pub fn raise(context: &mut Context, notes: &mut Notes, x: Exc)
     requires unwindings { context.old.unwindings + 1 < 2 ^ 64 }
     requires room { length notes.old < 136 }
@@ -44,6 +45,7 @@ pub fn raise_again(context: &mut Context, notes: &mut Notes, x: Exc)
 }
 
 /// The thread exits with this value.
+#[inline(never)]
 pub fn exit(context: &mut Context, notes: &mut Notes, n: i64)
     requires unwindings { context.old.unwindings + 1 < 2 ^ 64 }
     requires room { length notes.old < 136 }

@@ -1,15 +1,15 @@
 //! The values of expressions.
 
-ghost use Rattle.std.specs.Prelude.{◌≡◌, ◌≢◌, []};
+ghost use Rattle.std.specs.Prelude.{◌≡◌, ◌≢◌, [], Ok, IfSome};
 ghost use Rattle.thr_remainder.specs.Declarations.{exception_value};
-ghost use Rattle.thr_remainder.specs.Expressions.{value_in, value_of, exception_at, variable_value};
+ghost use Rattle.thr_remainder.specs.Expressions.{value_in, value_of, two_values, exception_at, variable_value};
 ghost use Rattle.thr_stack.specs.Sights.{shared_of, seen};
 ghost use Rattle.thr_stack.specs.Standing.{IsGood, setting_of, remainder_of};
 
-use crate::compute::{both, opposite, same, status, truth};
+use crate::compute::{apply, both, opposite, same, status, truth};
 use crate::context::Context;
 use thr_lines::lines::Lines;
-use thr_syntax::expr::{ExcRef, Expr, Var};
+use thr_syntax::expr::{ExcRef, Expr, Op, Var};
 use thr_values::exception::Exc;
 use thr_values::number::NameId;
 
@@ -41,6 +41,7 @@ impl<'a> Sight<'a> {
         }
     }
 
+    #[inline(always)]
     fn variable(&self, v: Var) -> i64
         ensures { result ≡ variable_value (seen self.now.lines.now self.now.context.now (shared_of self.now.shared.now)) v }
     {
@@ -53,7 +54,53 @@ impl<'a> Sight<'a> {
         }
     }
 
+    /// The value of an expression that is a number, a variable, `self` or `err`; None elsewhere.
+    #[inline(always)]
+    #[tactic(auto, using(thr_remainder::proofs::SightLaws::value_laws))]
+    fn leaf(&self, e: &Expr) -> Option<i64>
+        ensures { IfSome result (λ n. value_in (seen self.now.lines.now self.now.context.now (shared_of self.now.shared.now)) e.now ≡ Ok n) }
+    {
+        match e {
+            Expr::Num(n) => {
+                let n = *n;
+                Some(n)
+            }
+            Expr::Var(v) => Some(self.variable(*v)),
+            Expr::Me => Some(self.context.me as i64),
+            Expr::Err => Some(self.context.err),
+            _ => None,
+        }
+    }
+
+    /// The value of an operator with these operands, where both are leaves; None elsewhere.
+    #[inline(always)]
+    fn pair(&self, op: Op, a: &Expr, b: &Expr) -> Option<Result<i64, Exc>>
+        ensures { IfSome result (λ v. two_values op (value_in (seen self.now.lines.now self.now.context.now (shared_of self.now.shared.now)) a.now) (value_in (seen self.now.lines.now self.now.context.now (shared_of self.now.shared.now)) b.now) ≡ v) }
+    {
+        let Some(m) = self.leaf(a) else {
+            return None;
+        };
+        let Some(n) = self.leaf(b) else {
+            return None;
+        };
+        Some(apply(op, m, n))
+    }
+
+    /// The value of an operator whose operands are leaves; None elsewhere. Most expressions are of this form, and their
+    /// values take no call.
+    #[inline(always)]
+    #[tactic(auto, using(thr_remainder::proofs::SightLaws::value_laws))]
+    fn shallow(&self, e: &Expr) -> Option<Result<i64, Exc>>
+        ensures { IfSome result (λ v. value_in (seen self.now.lines.now self.now.context.now (shared_of self.now.shared.now)) e.now ≡ v) }
+    {
+        match e {
+            Expr::Two(op, a, b) => self.pair(*op, a.get(), b.get()),
+            _ => None,
+        }
+    }
+
     /// The value of an expression, or its first fault from the left (docs/script.md, "Expressions").
+    #[inline(never)]
     #[tactic(auto, using(thr_remainder::proofs::SightLaws::value_laws))]
     pub fn value(&self, e: &Expr) -> Result<i64, Exc>
         ensures { result ≡ value_in (seen self.now.lines.now self.now.context.now (shared_of self.now.shared.now)) e.now }
@@ -75,6 +122,7 @@ impl<'a> Sight<'a> {
 }
 
 /// The value of an expression where a thread stands, with these values of shared variables.
+#[inline(always)]
 pub fn value(lines: &Lines, context: &Context, e: &Expr, shared: &[i64]) -> Result<i64, Exc>
     requires good { IsGood lines.now context.now }
     requires some { context.now.frames.items ≢ [] }
@@ -85,5 +133,8 @@ pub fn value(lines: &Lines, context: &Context, e: &Expr, shared: &[i64]) -> Resu
         context,
         shared,
     };
+    if let Some(v) = sight.shallow(e) {
+        return v;
+    }
     sight.value(e)
 }

@@ -13,6 +13,7 @@ use thr_syntax::form::Form;
 use thr_values::number::Line;
 
 /// What is next, where no unwinding is under way and a frame is left.
+#[inline(always)]
 fn next_here(lines: &Lines, context: &Context) -> Stood
     requires good { IsGood lines.now context.now }
     requires free { context.now.under_way ≡ None }
@@ -43,6 +44,7 @@ fn next_here(lines: &Lines, context: &Context) -> Stood
 }
 
 /// What is next, where the line of a thread that has a frame is that of a step.
+#[inline(always)]
 pub fn next(lines: &Lines, context: &Context) -> Stood
     requires good { IsGood lines.now context.now }
     requires line { context.now.frames.items ≢ [] → IsLine lines.now context.now.line }

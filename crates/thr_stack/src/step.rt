@@ -21,6 +21,7 @@ use thr_syntax::form::Form;
 use thr_values::number::{Line, NameId};
 
 /// The step of a statement without an expression, or the end of a body. At a call of the thread service nothing changes.
+#[inline(never)]
 fn plain_step(lines: &Lines, context: &mut Context, notes: &mut Notes, row: &Row)
     requires ready { IsReady lines.now context.old notes.old }
     requires at { FormAt (line_at lines.now) (last_line lines.now) context.old.line row.now row.now.form }
@@ -39,6 +40,7 @@ fn plain_step(lines: &Lines, context: &mut Context, notes: &mut Notes, row: &Row
 
 /// The step at the line where a thread stands, with these values of shared variables; a shared one tells of its value. At a
 /// call of the thread service nothing changes. Answers the shared variable that the step writes.
+#[inline(always)]
 pub fn step(
     lines: &Lines,
     context: &mut Context,

@@ -26,6 +26,7 @@ use thr_values::number::{Line, NameId};
 
 /// The value of a statement's expression, or the exception that is raised in the statement's place. Whether a frame fits is
 /// asked first, where the statement needs one.
+#[inline(always)]
 fn outcome(
     lines: &Lines,
     context: &Context,
@@ -45,6 +46,7 @@ fn outcome(
 }
 
 /// Goes on at the body of a routine, with this argument.
+#[inline(never)]
 pub fn enter_routine(lines: &Lines, context: &mut Context, name: NameId, n: i64)
     requires { IsRoutine lines.now name }
     ensures { IsEntered lines.now name n context.old context.new }
@@ -74,6 +76,7 @@ pub fn return_to(context: &mut Context, place: Option<u8>, saved: Locals, back: 
 }
 
 /// The innermost frame is taken off, and its call returns this value.
+#[inline(never)]
 fn return_value(context: &mut Context, n: i64)
     requires { context.old.frames.items ≢ [] }
     ensures { HasReturned n context.old context.new }
@@ -91,6 +94,7 @@ fn return_value(context: &mut Context, n: i64)
 }
 
 /// Goes on after a statement that is no exit, whose expression has this value.
+#[inline(always)]
 fn go_on(lines: &Lines, context: &mut Context, row: &Row, n: i64)
     requires stands { Stands lines.now context.old }
     requires calls { CanCall lines.now }
@@ -146,6 +150,7 @@ fn go_on(lines: &Lines, context: &mut Context, row: &Row, n: i64)
 }
 
 /// Carries a statement out, whose expression has this value. A shared one tells of it.
+#[inline(always)]
 pub fn carry_out(
     lines: &Lines,
     context: &mut Context,
@@ -174,6 +179,7 @@ pub fn carry_out(
 }
 
 /// The step of a statement with an expression. Answers the shared variable that it writes.
+#[inline(always)]
 pub fn valued_step(
     lines: &Lines,
     context: &mut Context,
