@@ -11,13 +11,13 @@ use std::alloc::Global;
 use thr_lexer::line::Line;
 use thr_text::block::Shape;
 use thr_text::fault::{ParseFault, Place};
-use thr_text::operands::is_one_of;
+use thr_text::operands::is_word;
 use thr_text::word::Word;
 
 fn mentions_this(words: &[Word]) -> bool
     ensures { result ≡ mentions_this words.now }
 {
-    words.iter().any(|word| is_one_of(&[b"this"], word))
+    words.iter().any(|word| is_word(b"this", word))
 }
 
 fn shape(line: &Line) -> Shape

@@ -8,7 +8,7 @@ ghost use Rattle.thr_forms.specs.Pending.{slots_after, pending};
 use crate::slots::can_stand;
 use thr_lexer::words::Words;
 use thr_text::head::{Head, Slot};
-use thr_text::operands::{is_binary, is_one_of};
+use thr_text::operands::{is_binary, is_word, may_operate};
 use thr_text::word::Word;
 
 /// The slots that are still to be filled: those for exceptions first, then those for expressions, then the others.
@@ -24,16 +24,19 @@ fn operands(word: &Word) -> (usize, usize)
     ensures slots { text.operands_of word.now ≡ slots_after result.0 result.1 [] }
     ensures few { result.1 ≤ 2 }
 {
+    if !may_operate(word) {
+        return (0, 0);
+    }
     if is_binary(word) {
         return (0, 2);
     }
-    if is_one_of(&[b"not"], word) {
+    if is_word(b"not", word) {
         return (0, 1);
     }
-    if is_one_of(&[b"exc_get_status"], word) {
+    if is_word(b"exc_get_status", word) {
         return (1, 0);
     }
-    if is_one_of(&[b"exc_matches"], word) {
+    if is_word(b"exc_matches", word) {
         return (2, 0);
     }
     (0, 0)

@@ -8,7 +8,7 @@ ghost use Rattle.thr_text.specs.Slots as text;
 use thr_text::head::{Choice, Slot};
 use thr_text::names::is_name;
 use thr_text::object::Object;
-use thr_text::operands::is_one_of;
+use thr_text::operands::{is_one_of, is_word};
 use thr_text::word::Word;
 
 /// The words of an expression that are neither numbers nor names.
@@ -96,7 +96,7 @@ pub fn can_stand(slot: Slot, word: &Word) -> bool
         Slot::Declared(_) | Slot::Object(_) => is_a_name(word),
         Slot::Parameter | Slot::Local | Slot::Variable | Slot::Receiver => is_a_name(word),
         Slot::ObjectOr(kind) => is_a_name(word) || is_one_of(absent_words(kind), word),
-        Slot::Exception => is_a_name(word) || is_one_of(&[b"this"], word),
+        Slot::Exception => is_a_name(word) || is_word(b"this", word),
         Slot::Expression => is_of_expression(word),
     }
 }

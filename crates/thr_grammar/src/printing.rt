@@ -30,26 +30,17 @@ fn text_of(alloc: Global, s: &Script) -> Result<Vec<u8>, AllocError>
 {
     let mut out = Vec::new(alloc);
     out.extend_from_slice(b"dcethr 1\n")?;
-    add_items(alloc, &mut out, s.names.as_slice(), s.items.as_slice())?;
+    add_items(&mut out, s.names.as_slice(), s.items.as_slice())?;
     Ok(out)
 }
 
 /// Adds the lines of declarations.
-fn add_items(
-    alloc: Global,
-    out: &mut Vec<u8>,
-    names: &[Name],
-    items: &[Item],
-) -> Result<(), AllocError>
+fn add_items(out: &mut Vec<u8>, names: &[Name], items: &[Item]) -> Result<(), AllocError>
     ensures { OnOk result (out.new.items ≡ out.old.items ++ items_text names.now items.now) }
 {
     for item in items {
         let locals = locals_of(item);
-        let scope = Scope {
-            alloc,
-            names,
-            locals,
-        };
+        let scope = Scope { names, locals };
         add_item(out, &scope, item)?;
     }
     Ok(())

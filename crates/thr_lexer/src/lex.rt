@@ -144,7 +144,9 @@ fn read_words(alloc: Global, text: &[u8]) -> Result<Words, LexFault>
     ensures words { IfOk result (λ ws. (ws ≡ map word_of (pieces_between text.now)) × (list_any is_too_large (pieces_between text.now) ≡ false)) }
     ensures fault { IfErr result (λ f. (f ≡ LexFault.NoMemory) ⊎ ((f ≡ LexFault.F3) × (list_any is_too_large (pieces_between text.now) ≡ true))) }
 {
-    let mut words = Words::new(alloc);
+    // Words lie apart, so that half of the bytes begin one at most.
+    let room = text.len().div_ceil(2).min(24);
+    let mut words = Words::with_capacity(alloc, room)?;
     for piece in text.split(|b| is_blank(*b)) {
         if !piece.is_empty() {
             words.push(read_word(alloc, piece)?)?;
@@ -154,8 +156,8 @@ fn read_words(alloc: Global, text: &[u8]) -> Result<Words, LexFault>
 }
 
 /// The words of one line without its ending, or the least fault of the line (docs/script.md, "Words" and "Faults"). The
-/// readers of scripts and of journals call it for each line. Each byte is looked at a bounded number of times. Memory is
-/// taken for the texts of names and marks, and for the list itself only above 24 words.
+/// reader of scripts calls it for each line. Each byte is looked at a bounded number of times. Memory is taken for the list,
+/// once where the line has at most 24 words, and for the texts of names and marks.
 pub fn lex_line(alloc: Global, line: &[u8]) -> Result<Words, LexFault>
     ensures words { IfOk result (λ ws. (word_faults line.now ≡ []) × (ws ≡ words_of line.now)) }
     ensures few { IfOk result (λ ws. length ws ≤ 24) }

@@ -1,43 +1,40 @@
 //! The words of one line, in their order.
 
-ghost use Rattle.std.specs.Prelude.{◌≡◌, ◌==◌, ◌<◌, [], ◌∷◌, ◌++◌, length, slice_get, IsOk, OnOk, OnErr, OnSome};
+ghost use Rattle.std.specs.Prelude.{◌≡◌, ◌==◌, ◌<◌, [], ◌∷◌, ◌++◌, length, slice_get, IfOk, OnOk, OnErr, OnSome};
 ghost use Rattle.std.specs.Option.{option_copied};
 
 use smallvec::SmallVec;
-use std::alloc::{AllocFailed, Global};
+use std::alloc::{AllocError, AllocFailed, Global};
 use std::marker::Model;
 use thr_text::word::Word;
 
-/// The words of a line, which contracts see as a list. The list needs no allocation for 24 words, the most that a line may
-/// have (docs/script.md, "Words").
+/// The words of a line, which contracts see as a list. Two stand in the line itself; a line with more takes memory by its words.
 #[derive(Drop)]
 pub struct Words {
-    words: SmallVec<Word, 24>,
+    words: SmallVec<Word, 2>,
 }
 
 impl Model for Words {
-    ghost use Rattle.std.specs.Prelude.{List, ◌≤◌};
+    ghost use Rattle.std.specs.Prelude.{List};
     ghost use Rattle.thr_text.specs.declared.word.Word.{Word};
 
     ghost Value = { List Word };
 
     ghost view = { λ w. w.words.items };
-
-    ghost invariant = { λ w. 24 ≤ w.words.capacity };
 }
 
 impl Words {
-    pub(crate) fn new(alloc: Global) -> Words
-        ensures { result ≡ [] }
+    /// No words, with room for so many.
+    pub(crate) fn with_capacity(alloc: Global, count: usize) -> Result<Words, AllocError>
+        ensures { IfOk result (λ words. words ≡ []) }
     {
-        Words {
-            words: SmallVec::new(alloc),
-        }
+        Ok(Words {
+            words: SmallVec::with_capacity(alloc, count)?,
+        })
     }
 
     pub(crate) fn push(&mut self, word: Word) -> Result<(), AllocFailed<Word>>
         ensures ok { OnOk result (self.new ≡ self.old ++ word ∷ []) }
-        ensures succeeds { length self.old < 24 → IsOk result }
         ensures err { OnErr result (self.new ≡ self.old) }
     {
         self.words.push(word)

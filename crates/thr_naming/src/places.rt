@@ -101,7 +101,7 @@ pub fn place<'a>(
     ensures fault { IfErr result (λ f. f ≡ ParseFault.NoMemory) }
 {
     let mut left = Open::new(alloc);
-    let mut all = Vec::new(alloc);
+    let mut all = Vec::with_capacity(alloc, words.len())?;
     left.push(head.slots())?;
     for word in words {
         let Some(slot) = left.pop() else {

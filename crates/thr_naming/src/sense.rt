@@ -104,7 +104,7 @@ pub fn is_undeclared(whole: &Table, locals: &[Name], x: &Placed) -> bool
 {
     match x.word {
         Word::Name(name) => {
-            refers(x.slot) && is_name(name.as_slice()) && is_unknown(sense_of(whole, locals, name))
+            refers(x.slot) && is_unknown(sense_of(whole, locals, name)) && is_name(name.as_slice())
         }
         _ => false,
     }
@@ -117,8 +117,8 @@ pub fn is_misused(whole: &Table, locals: &[Name], x: &Placed) -> bool
     match x.word {
         Word::Name(name) => {
             refers(x.slot)
-                && is_name(name.as_slice())
                 && !suits(x.slot, sense_of(whole, locals, name))
+                && is_name(name.as_slice())
         }
         _ => false,
     }

@@ -16,7 +16,7 @@ use std::alloc::Global;
 use std::marker::Model;
 use thr_syntax::expr::{ExcRef, Expr};
 use thr_text::fault::ParseFault;
-use thr_text::operands::{is_binary, is_one_of};
+use thr_text::operands::{is_binary, is_word, may_operate};
 use thr_text::word::Word;
 
 /// The pieces of a line that no operator has taken yet, the leftmost first.
@@ -40,13 +40,13 @@ impl<'a> Model for Pieces<'a> {
 }
 
 impl<'a> Pieces<'a> {
-    /// No pieces.
-    pub fn new(alloc: Global) -> Pieces<'a>
-        ensures { result ≡ [] }
+    /// No pieces, with room for so many.
+    pub fn with_capacity(alloc: Global, count: usize) -> Result<Pieces<'a>, ParseFault>
+        ensures ok { IfOk result (λ ps. ps ≡ []) }
+        ensures fault { IfErr result (λ f. f ≡ ParseFault.NoMemory) }
     {
-        Pieces {
-            stack: Vec::new(alloc),
-        }
+        let stack = Vec::with_capacity(alloc, count)?;
+        Ok(Pieces { stack })
     }
 
     /// Takes the leftmost piece, if there is one.
@@ -90,9 +90,9 @@ fn exception(names: &Names, piece: Option<Piece>) -> ExcRef
 fn named_atom(names: &Names, word: &Word) -> Expr
     ensures { result ≡ named_atom (scope_seen names.now) word.now }
 {
-    if is_one_of(&[b"self"], word) {
+    if is_word(b"self", word) {
         Expr::Me
-    } else if is_one_of(&[b"err"], word) {
+    } else if is_word(b"err", word) {
         Expr::Err
     } else {
         Expr::Var(names.variable(word))
@@ -172,16 +172,19 @@ fn put_word<'a>(
     ensures ok { OnOk result (pieces.new ≡ with_word (scope_seen names.now) word.now pieces.old) }
     ensures fault { IfErr result (λ f. f ≡ ParseFault.NoMemory) }
 {
+    if !may_operate(word) {
+        return pieces.push(Piece::Raw(word));
+    }
     if is_binary(word) {
         return operate(alloc, names, word, pieces);
     }
-    if is_one_of(&[b"not"], word) {
+    if is_word(b"not", word) {
         return negate(alloc, names, pieces);
     }
-    if is_one_of(&[b"exc_get_status"], word) {
+    if is_word(b"exc_get_status", word) {
         return ask_status(names, pieces);
     }
-    if is_one_of(&[b"exc_matches"], word) {
+    if is_word(b"exc_matches", word) {
         return ask_match(names, pieces);
     }
     pieces.push(Piece::Raw(word))
@@ -196,7 +199,7 @@ pub fn pieces_of<'a>(
     ensures ok { IfOk result (λ ps. ps ≡ Resolving.pieces_of (scope_seen names.now) words.now) }
     ensures fault { IfErr result (λ f. f ≡ ParseFault.NoMemory) }
 {
-    let mut pieces = Pieces::new(alloc);
+    let mut pieces = Pieces::with_capacity(alloc, words.len())?;
     let mut left = words.len();
     while left > 0 {
         left -= 1;

@@ -7,7 +7,7 @@ ghost use Rattle.thr_resolving.specs.Seen.{scope_seen};
 
 use thr_naming::{Table, is_among};
 use thr_syntax::expr::{ExcRef, Var};
-use thr_text::operands::is_one_of;
+use thr_text::operands::is_word;
 use thr_text::word::Word;
 use thr_values::name::Name;
 use thr_values::number::NameId;
@@ -82,7 +82,7 @@ impl Names<'_> {
     pub fn exception(&self, word: &Word) -> ExcRef
         ensures { result ≡ exception_in (scope_seen self.now) word.now }
     {
-        if is_one_of(&[b"this"], word) {
+        if is_word(b"this", word) {
             ExcRef::This
         } else {
             ExcRef::Named(self.id(word))

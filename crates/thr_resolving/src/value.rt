@@ -16,7 +16,7 @@ use thr_syntax::tree::Interface;
 use thr_text::fault::ParseFault;
 use thr_text::head::{Choice, Slot};
 use thr_text::object::Object;
-use thr_text::operands::is_one_of;
+use thr_text::operands::is_word;
 use thr_text::word::Word;
 use thr_values::name::Name;
 use thr_values::number::NameId;
@@ -58,7 +58,7 @@ fn number(word: &Word) -> i64
 fn interface(word: &Word) -> Interface
     ensures { result ≡ interface_in word.now }
 {
-    if is_one_of(&[b"exc"], word) {
+    if is_word(b"exc", word) {
         Interface::Exc
     } else {
         Interface::Status
@@ -68,11 +68,11 @@ fn interface(word: &Word) -> Interface
 fn policy(word: &Word) -> Policy
     ensures { result ≡ policy_in word.now }
 {
-    if is_one_of(&[b"SCHED_FIFO"], word) {
+    if is_word(b"SCHED_FIFO", word) {
         Policy::Fifo
-    } else if is_one_of(&[b"SCHED_RR"], word) {
+    } else if is_word(b"SCHED_RR", word) {
         Policy::Rr
-    } else if is_one_of(&[b"SCHED_FG_NP"], word) {
+    } else if is_word(b"SCHED_FG_NP", word) {
         Policy::Fg
     } else {
         Policy::Bg
@@ -82,9 +82,9 @@ fn policy(word: &Word) -> Policy
 fn kind(word: &Word) -> Kind
     ensures { result ≡ kind_in word.now }
 {
-    if is_one_of(&[b"MUTEX_FAST_NP"], word) {
+    if is_word(b"MUTEX_FAST_NP", word) {
         Kind::Fast
-    } else if is_one_of(&[b"MUTEX_RECURSIVE_NP"], word) {
+    } else if is_word(b"MUTEX_RECURSIVE_NP", word) {
         Kind::Recursive
     } else {
         Kind::Nonrecursive
@@ -98,8 +98,8 @@ fn chosen(choice: Choice, word: &Word) -> Value
     match choice {
         Choice::Interface => Value::Interface(interface(word)),
         Choice::Policy => Value::Policy(policy(word)),
-        Choice::Inherit => Value::Inherit(is_one_of(&[b"PTHREAD_INHERIT_SCHED"], word)),
-        Choice::Cancel => Value::Cancel(is_one_of(&[b"CANCEL_ON"], word)),
+        Choice::Inherit => Value::Inherit(is_word(b"PTHREAD_INHERIT_SCHED", word)),
+        Choice::Cancel => Value::Cancel(is_word(b"CANCEL_ON", word)),
         Choice::MutexKind => Value::Kind(kind(word)),
     }
 }
@@ -120,8 +120,8 @@ fn is_absent(kind: Object, word: &Word) -> bool
     ensures { result ≡ is_one_of (absent_word kind ∷ []) word.now }
 {
     match kind {
-        Object::Routine => is_one_of(&[b"none"], word),
-        _ => is_one_of(&[b"default"], word),
+        Object::Routine => is_word(b"none", word),
+        _ => is_word(b"default", word),
     }
 }
 

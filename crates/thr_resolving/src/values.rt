@@ -282,7 +282,7 @@ pub fn values_in(
     ensures ok { IfOk result (λ vs. vs ≡ Resolving.values_in (scope_seen names.now) slots.now pieces.old) }
     ensures fault { IfErr result (λ f. f ≡ ParseFault.NoMemory) }
 {
-    let mut values = Vec::new(alloc);
+    let mut values = Vec::with_capacity(alloc, slots.len())?;
     for slot in slots {
         values.push(value_in(names, *slot, pieces.pop())?)?;
     }

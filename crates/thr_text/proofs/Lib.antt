@@ -4,3 +4,5 @@ pub mod FormLaws
 pub mod TermLaws
 pub mod FaultLaws
 pub mod AnyMap
+pub mod GroupLaws
+pub mod HeadGroups

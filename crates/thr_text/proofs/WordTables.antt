@@ -42,7 +42,7 @@ any_is x ys t is none = subst (λ v. list_any (λ y. bytes_eq v y) ys ≡ false)
 any_is_true : (x : List ℕ) (ys : List (List ℕ)) (t : List ℕ) → bytes_eq t x ≡ true → list_any (λ y. bytes_eq x y) ys ≡ true → list_any (λ y. bytes_eq t y) ys ≡ true
 any_is_true x ys t is some = subst (λ v. list_any (λ y. bytes_eq v y) ys ≡ true) (sym ((bytes_eq-Decides t x).0 is)) some
 
-both : (a b : Bool) → (a && b) ≡ true → (a ≡ true) × (b ≡ true)
+pub both : (a b : Bool) → (a && b) ≡ true → (a ≡ true) × (b ≡ true)
 both true b e = (refl, e)
 both false b e = absurd cc
 

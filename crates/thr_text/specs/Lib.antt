@@ -3,6 +3,7 @@ pub mod Lexing
 pub mod Faults
 pub mod Heads
 pub mod Slots
+pub mod Groups
 pub mod Grammar
 pub mod Blocks
 pub mod Tables

@@ -1,6 +1,6 @@
 //! The first words of lines, and the slots after them.
 
-ghost use Rattle.std.specs.Prelude.{◌≡◌};
+ghost use Rattle.std.specs.Prelude.{◌≡◌, map};
 ghost use Rattle.thr_values.specs.Words.{call_word};
 
 use crate::block::Shape;
@@ -80,81 +80,107 @@ pub enum Slot {
     Expression,
 }
 
-/// All first words.
-const HEADS: [Head; 73] = [
-    Head::Interface,
-    Head::Limit,
-    Head::Shared,
-    Head::Exception,
-    Head::Status,
-    Head::Mutex,
-    Head::Mutexattr,
-    Head::Cond,
-    Head::Attr,
-    Head::Key,
-    Head::Once,
-    Head::Pipe,
-    Head::Routine,
-    Head::Local,
-    Head::Set,
-    Head::Say,
-    Head::If,
-    Head::Else,
-    Head::While,
-    Head::Try,
-    Head::Catch,
-    Head::CatchAll,
-    Head::Finally,
-    Head::Endtry,
-    Head::Raise,
-    Head::Reraise,
-    Head::Call,
-    Head::Return,
-    Head::Exit,
-    Head::End,
-    Head::Dce(CallWord::AttrCreate),
-    Head::Dce(CallWord::AttrDelete),
-    Head::Dce(CallWord::AttrSetsched),
-    Head::Dce(CallWord::AttrSetprio),
-    Head::Dce(CallWord::AttrSetinheritsched),
-    Head::Dce(CallWord::AttrSetstacksize),
-    Head::Dce(CallWord::Create),
-    Head::Dce(CallWord::Join),
-    Head::Dce(CallWord::Detach),
-    Head::Dce(CallWord::Yield),
-    Head::Dce(CallWord::Cancel),
-    Head::Dce(CallWord::Testcancel),
-    Head::Dce(CallWord::Setcancel),
-    Head::Dce(CallWord::Setasynccancel),
-    Head::Dce(CallWord::Setprio),
-    Head::Dce(CallWord::Getprio),
-    Head::Dce(CallWord::Setscheduler),
-    Head::Dce(CallWord::Getscheduler),
-    Head::Dce(CallWord::DelayNp),
-    Head::Dce(CallWord::GetExpirationNp),
-    Head::Dce(CallWord::MutexattrCreate),
-    Head::Dce(CallWord::MutexattrSetkindNp),
-    Head::Dce(CallWord::MutexattrDelete),
-    Head::Dce(CallWord::MutexInit),
-    Head::Dce(CallWord::MutexDestroy),
-    Head::Dce(CallWord::MutexLock),
-    Head::Dce(CallWord::MutexTrylock),
-    Head::Dce(CallWord::MutexUnlock),
-    Head::Dce(CallWord::LockGlobalNp),
-    Head::Dce(CallWord::UnlockGlobalNp),
-    Head::Dce(CallWord::CondInit),
-    Head::Dce(CallWord::CondDestroy),
-    Head::Dce(CallWord::CondWait),
-    Head::Dce(CallWord::CondTimedwait),
-    Head::Dce(CallWord::CondSignal),
-    Head::Dce(CallWord::CondBroadcast),
-    Head::Dce(CallWord::Once),
-    Head::Dce(CallWord::Keycreate),
-    Head::Dce(CallWord::Setspecific),
-    Head::Dce(CallWord::Getspecific),
-    Head::Dce(CallWord::Read),
-    Head::Dce(CallWord::Write),
-    Head::Dce(CallWord::Close),
+/// All first words, by the length of their texts.
+const HEADS: [&[Head]; 29] = [
+    &[],
+    &[],
+    &[Head::If],
+    &[Head::Set, Head::End, Head::Say, Head::Key, Head::Try],
+    &[
+        Head::Cond,
+        Head::Attr,
+        Head::Once,
+        Head::Pipe,
+        Head::Else,
+        Head::Call,
+        Head::Dce(CallWord::Read),
+    ],
+    &[
+        Head::Limit,
+        Head::Mutex,
+        Head::Local,
+        Head::While,
+        Head::Catch,
+        Head::Raise,
+        Head::Dce(CallWord::Write),
+        Head::Dce(CallWord::Close),
+    ],
+    &[Head::Shared, Head::Status, Head::Endtry, Head::Return],
+    &[Head::Routine, Head::Finally, Head::Reraise],
+    &[],
+    &[
+        Head::Interface,
+        Head::Exception,
+        Head::Mutexattr,
+        Head::CatchAll,
+    ],
+    &[],
+    &[],
+    &[
+        Head::Exit,
+        Head::Dce(CallWord::Join),
+        Head::Dce(CallWord::Once),
+    ],
+    &[Head::Dce(CallWord::Yield)],
+    &[
+        Head::Dce(CallWord::Create),
+        Head::Dce(CallWord::Detach),
+        Head::Dce(CallWord::Cancel),
+    ],
+    &[Head::Dce(CallWord::Setprio), Head::Dce(CallWord::Getprio)],
+    &[Head::Dce(CallWord::DelayNp)],
+    &[
+        Head::Dce(CallWord::Setcancel),
+        Head::Dce(CallWord::CondInit),
+        Head::Dce(CallWord::CondWait),
+        Head::Dce(CallWord::Keycreate),
+    ],
+    &[
+        Head::Dce(CallWord::Testcancel),
+        Head::Dce(CallWord::MutexInit),
+        Head::Dce(CallWord::MutexLock),
+    ],
+    &[
+        Head::Dce(CallWord::AttrCreate),
+        Head::Dce(CallWord::AttrDelete),
+        Head::Dce(CallWord::CondSignal),
+        Head::Dce(CallWord::Setspecific),
+        Head::Dce(CallWord::Getspecific),
+    ],
+    &[
+        Head::Dce(CallWord::AttrSetprio),
+        Head::Dce(CallWord::Setscheduler),
+        Head::Dce(CallWord::Getscheduler),
+        Head::Dce(CallWord::MutexUnlock),
+        Head::Dce(CallWord::CondDestroy),
+    ],
+    &[
+        Head::Dce(CallWord::AttrSetsched),
+        Head::Dce(CallWord::MutexDestroy),
+        Head::Dce(CallWord::MutexTrylock),
+    ],
+    &[
+        Head::Dce(CallWord::Setasynccancel),
+        Head::Dce(CallWord::LockGlobalNp),
+        Head::Dce(CallWord::CondTimedwait),
+        Head::Dce(CallWord::CondBroadcast),
+    ],
+    &[],
+    &[
+        Head::Dce(CallWord::MutexattrCreate),
+        Head::Dce(CallWord::MutexattrDelete),
+        Head::Dce(CallWord::UnlockGlobalNp),
+    ],
+    &[
+        Head::Dce(CallWord::AttrSetstacksize),
+        Head::Dce(CallWord::GetExpirationNp),
+    ],
+    &[],
+    &[],
+    &[
+        Head::Dce(CallWord::AttrSetinheritsched),
+        Head::Dce(CallWord::MutexattrSetkindNp),
+    ],
 ];
 
 #[tactic(auto, unfolding(thr_values::specs::Words::call_word))]
@@ -211,6 +237,7 @@ fn call_text(call: CallWord) -> &'static [u8]
 impl Head {
     ghost use Rattle.thr_text.specs.Blocks.{shape_of};
     ghost use Rattle.thr_text.specs.Heads.{head_word, head_in, head_of};
+    ghost use Rattle.thr_text.specs.Groups.{head_in_group};
 
     /// The word.
     #[tactic(auto, unfolding(crate::specs::Heads::head_word))]
@@ -305,11 +332,22 @@ impl Head {
         None
     }
 
+    /// The first word that has this text, among those of its length.
+    #[tactic(auto, using(crate::proofs::HeadLaws::in_no_group, crate::proofs::HeadLaws::in_group_at))]
+    fn find_by_length(groups: &[&[Head]], text: &[u8]) -> Option<Head>
+        ensures { result ≡ head_in_group (map (λ g. g.now) groups.now) text.now }
+    {
+        if text.len() < groups.len() {
+            Head::find(groups[text.len()], text)
+        } else {
+            None
+        }
+    }
+
     /// The first word that has this text.
-    #[tactic(auto, unfolding(crate::specs::Heads::head_of, crate::specs::Heads::all_heads))]
     pub fn of(text: &[u8]) -> Option<Head>
         ensures { result ≡ head_of text.now }
     {
-        Head::find(&HEADS, text)
+        Head::find_by_length(&HEADS, text)
     }
 }

@@ -6,6 +6,7 @@ ghost use Rattle.thr_syntax.specs.Spelling.{expr_words};
 ghost use Rattle.thr_grammar.specs.Printing.{scope_of, spaced};
 
 use crate::printing::scope::Scope;
+use itoa::Buffer;
 use std::alloc::AllocError;
 use thr_syntax::expr::Expr;
 use thr_text::fixed::operator_text;
@@ -20,19 +21,19 @@ pub(crate) fn add_word(out: &mut Vec<u8>, word: &[u8]) -> Result<(), AllocError>
 }
 
 /// Adds a number after a space.
-pub(crate) fn add_number(out: &mut Vec<u8>, scope: &Scope<'_>, n: i64) -> Result<(), AllocError>
+pub(crate) fn add_number(out: &mut Vec<u8>, n: i64) -> Result<(), AllocError>
     ensures { OnOk result (out.new.items ≡ out.old.items ++ spaced (signed_decimal n ∷ [])) }
 {
-    let text = n.to_string(scope.alloc)?;
-    add_word(out, text.as_bytes())
+    let mut buffer = Buffer::new();
+    add_word(out, buffer.format(n).as_bytes())
 }
 
 /// Adds a number that has no sign after a space.
-pub(crate) fn add_count(out: &mut Vec<u8>, scope: &Scope<'_>, n: u32) -> Result<(), AllocError>
+pub(crate) fn add_count(out: &mut Vec<u8>, n: u32) -> Result<(), AllocError>
     ensures { OnOk result (out.new.items ≡ out.old.items ++ spaced (decimal n ∷ [])) }
 {
-    let text = n.to_string(scope.alloc)?;
-    add_word(out, text.as_bytes())
+    let mut buffer = Buffer::new();
+    add_word(out, buffer.format(n).as_bytes())
 }
 
 /// Adds the words of an expression, each after a space.
@@ -44,7 +45,7 @@ pub(crate) fn add_expression(
     ensures { OnOk result (out.new.items ≡ out.old.items ++ spaced (expr_words (scope_of scope.now) e.now)) }
 {
     match e {
-        Expr::Num(n) => add_number(out, scope, *n),
+        Expr::Num(n) => add_number(out, *n),
         Expr::Var(v) => add_word(out, scope.variable(*v)),
         Expr::Me => add_word(out, b"self"),
         Expr::Err => add_word(out, b"err"),

@@ -60,17 +60,17 @@ pub(crate) fn add_item(out: &mut Vec<u8>, scope: &Scope<'_>, item: &Item) -> Res
 {
     match item {
         Item::Interface(interface) => add_with(out, Head::Interface, interface_text(*interface)),
-        Item::Limit(n) => add_limit(out, scope, Head::Limit, *n),
-        Item::Shared(name, n) => add_with_number(out, scope, Head::Shared, scope.name(*name), *n),
+        Item::Limit(n) => add_limit(out, Head::Limit, *n),
+        Item::Shared(name, n) => add_with_number(out, Head::Shared, scope.name(*name), *n),
         Item::Exception(name) => add_with(out, Head::Exception, scope.name(*name)),
-        Item::Status(name, n) => add_with_number(out, scope, Head::Status, scope.name(*name), *n),
+        Item::Status(name, n) => add_with_number(out, Head::Status, scope.name(*name), *n),
         Item::Mutex(name) => add_with(out, Head::Mutex, scope.name(*name)),
         Item::MutexAttr(name) => add_with(out, Head::Mutexattr, scope.name(*name)),
         Item::Cond(name) => add_with(out, Head::Cond, scope.name(*name)),
         Item::Attr(name) => add_with(out, Head::Attr, scope.name(*name)),
         Item::Key(name) => add_with(out, Head::Key, scope.name(*name)),
         Item::Once(name) => add_with(out, Head::Once, scope.name(*name)),
-        Item::Pipe(name, n) => add_with_count(out, scope, Head::Pipe, scope.name(*name), *n),
+        Item::Pipe(name, n) => add_with_count(out, Head::Pipe, scope.name(*name), *n),
         Item::Routine(routine) => add_routine(out, scope, routine),
     }
 }

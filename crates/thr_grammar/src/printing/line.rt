@@ -83,7 +83,6 @@ pub(crate) fn add_with_three(
 /// Adds a line with a word and a number that may have a sign.
 pub(crate) fn add_with_number(
     out: &mut Vec<u8>,
-    scope: &Scope<'_>,
     head: Head,
     a: &[u8],
     n: i64,
@@ -92,28 +91,22 @@ pub(crate) fn add_with_number(
 {
     begin(out, head)?;
     add_word(out, a)?;
-    add_number(out, scope, n)?;
+    add_number(out, n)?;
     end(out)
 }
 
 /// Adds a line with a number.
-pub(crate) fn add_limit(
-    out: &mut Vec<u8>,
-    scope: &Scope<'_>,
-    head: Head,
-    n: u32,
-) -> Result<(), AllocError>
+pub(crate) fn add_limit(out: &mut Vec<u8>, head: Head, n: u32) -> Result<(), AllocError>
     ensures { OnOk result (out.new.items ≡ out.old.items ++ line (head_word head ∷ decimal n ∷ [])) }
 {
     begin(out, head)?;
-    add_count(out, scope, n)?;
+    add_count(out, n)?;
     end(out)
 }
 
 /// Adds a line with a word and a number.
 pub(crate) fn add_with_count(
     out: &mut Vec<u8>,
-    scope: &Scope<'_>,
     head: Head,
     a: &[u8],
     n: u32,
@@ -122,7 +115,7 @@ pub(crate) fn add_with_count(
 {
     begin(out, head)?;
     add_word(out, a)?;
-    add_count(out, scope, n)?;
+    add_count(out, n)?;
     end(out)
 }
 

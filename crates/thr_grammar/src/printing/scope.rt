@@ -4,7 +4,6 @@ ghost use Rattle.std.specs.Prelude.{◌≡◌};
 ghost use Rattle.thr_syntax.specs.Spelling.{name_at, name_of, local_of, variable_of, exception_of, name_or};
 ghost use Rattle.thr_grammar.specs.Printing.{scope_of};
 
-use std::alloc::Global;
 use thr_syntax::expr::{ExcRef, Var};
 use thr_values::name::Name;
 use thr_values::number::NameId;
@@ -12,7 +11,6 @@ use thr_values::number::NameId;
 /// The names of a script, and those of a routine's parameter and locals.
 #[derive(Clone, Copy)]
 pub(crate) struct Scope<'a> {
-    pub alloc: Global,
     pub names: &'a [Name],
     pub locals: &'a [Name],
 }

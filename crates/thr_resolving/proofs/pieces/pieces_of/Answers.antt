@@ -5,7 +5,7 @@ use Rattle.thr_resolving.proofs.pieces.pieces_of.Goals as goal
 
 pub loop-left-init : goal.loop-left-init
 loop-left-init c = record {
-  taken = c.new-pieces.ensures ∙ no_words (scope_seen c.args.names.now) c.args.words.now;
+  taken = c.in_ok-pieces.ensures.ok ∙ no_words (scope_seen c.args.names.now) c.args.words.now;
   within = omega arith;
 }
 
