@@ -1,0 +1,16 @@
+pub mod DebtLaws
+pub mod SeatLaws
+pub mod GivenLaws
+pub mod MakingLaws
+pub mod PipeCalls
+pub mod WaitCalls
+pub mod SignalCalls
+pub mod CancelCalls
+pub mod Known
+pub mod FreeingLaws
+pub mod CloseCalls
+pub mod WakingLaws
+pub mod ClockLaws
+pub mod BroadcastCalls
+pub mod TurnLaws
+pub mod OpeningLaws
