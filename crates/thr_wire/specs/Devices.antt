@@ -2,10 +2,12 @@
 use Rattle.std.specs.Prelude.{ℕ, List, Contains}
 use Rattle.thr_wire.specs.Causes.{next_count}
 
--- The bytes that a source has left or a sink holds, and how often it has failed (docs/theorems.md, "Devices").
-pub record Device : Type 0 where
+-- The bytes that a sink holds, how often it has failed, and its room: how many bytes more it holds without taking memory
+-- (docs/theorems.md, "Devices").
+pub record SinkDevice : Type 0 where
   pub bytes : List ℕ
   pub faults : ℕ
+  pub room : ℕ
 
 -- The numbers of the calls that are to fail, from 0 on, how many bytes a call moves at most, and how many calls there were
 -- (docs/theorems.md, "Devices").
@@ -14,10 +16,17 @@ pub record CallSchedule : Type 0 where
   pub most : ℕ
   pub calls : ℕ
 
--- A device with a schedule (docs/theorems.md, "Devices").
-pub record MemDevice : Type 0 where
+-- A source with a schedule, by the bytes that it has left (docs/theorems.md, "Devices").
+pub record MemSourceDevice : Type 0 where
   pub bytes : List ℕ
   pub faults : ℕ
+  pub schedule : CallSchedule
+
+-- A sink with a schedule, by the bytes that it holds and its room (docs/theorems.md, "Devices").
+pub record MemSinkDevice : Type 0 where
+  pub bytes : List ℕ
+  pub faults : ℕ
+  pub room : ℕ
   pub schedule : CallSchedule
 
 -- The next call is listed as one that is to fail (docs/theorems.md, "Devices").

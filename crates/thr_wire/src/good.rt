@@ -1,6 +1,6 @@
 //! Devices in memory that have no faults of their own.
 
-ghost use Rattle.std.specs.Prelude.{◌≡◌, ◌≤◌, [], ◌++◌, length, drop, Some, IfOk, OnOk, OnErr};
+ghost use Rattle.std.specs.Prelude.{◌≡◌, ◌<◌, ◌≤◌, [], ◌++◌, length, drop, Some, IfOk, OnOk, OnErr};
 ghost use Rattle.thr_wire.specs.Causes.{next_count};
 
 use crate::fault::Failed;
@@ -47,7 +47,8 @@ impl Source for GoodSource {
     }
 }
 
-/// A sink in memory that fails only where it finds no memory. Contracts see what it holds and how often it has failed.
+/// A sink in memory that fails only where it finds no memory. Contracts see what it holds, how often it has failed, and its
+/// room: how many bytes more it holds without taking memory.
 #[derive(Drop)]
 pub struct GoodSink {
     bytes: Vec<u8>,
@@ -55,16 +56,17 @@ pub struct GoodSink {
 }
 
 impl Model for GoodSink {
-    ghost use Rattle.thr_wire.specs.Devices.{Device};
+    ghost use Rattle.std.specs.Prelude.{◌-◌, vec_capacity, vec_len};
+    ghost use Rattle.thr_wire.specs.Devices.{SinkDevice};
 
-    ghost Value = { Device };
+    ghost Value = { SinkDevice };
 
-    ghost view = { λ s. record { bytes = s.bytes.items; faults = s.faults } };
+    ghost view = { λ s. record { bytes = s.bytes.items; faults = s.faults; room = vec_capacity s.bytes - vec_len s.bytes } };
 }
 
 impl GoodSink {
     pub fn new(alloc: Global) -> GoodSink
-        ensures { result ≡ record { bytes = []; faults = 0 } }
+        ensures { result ≡ record { bytes = []; faults = 0; room = 0 } }
     {
         GoodSink {
             bytes: Vec::new(alloc),
@@ -85,7 +87,8 @@ impl Sink for GoodSink {
     ghost faults = { λ s. s.faults };
 
     fn write(&mut self, bytes: &[u8]) -> Result<usize, Failed>
-        // It takes all that it is given, or for want of memory nothing.
+        // It takes all that it is given, or for want of memory nothing: where there is room it takes all.
+        ensures full { OnErr result (self.old.room < length bytes.now) }
         ensures all { IfOk result (λ n. n ≡ length bytes.now) }
         ensures gained { OnOk result (self.new.bytes ≡ self.old.bytes ++ bytes.now) }
         ensures untouched { OnErr result (self.new.bytes ≡ self.old.bytes) }

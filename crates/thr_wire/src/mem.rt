@@ -45,9 +45,9 @@ pub struct MemSource {
 
 impl Model for MemSource {
     ghost use Rattle.std.specs.Prelude.{drop, ◌≤◌, ◌<◌, vec_len};
-    ghost use Rattle.thr_wire.specs.Devices.{CallSchedule, MemDevice};
+    ghost use Rattle.thr_wire.specs.Devices.{CallSchedule, MemSourceDevice};
 
-    ghost Value = { MemDevice };
+    ghost Value = { MemSourceDevice };
 
     ghost view = { λ s. record {
       bytes = drop s.at s.bytes.items;
@@ -118,7 +118,8 @@ impl Source for MemSource {
     }
 }
 
-/// A sink in memory. Contracts see what it holds, how often it has failed, and its schedule.
+/// A sink in memory. Contracts see what it holds, how often it has failed, its room (how many bytes more it holds without
+/// taking memory), and its schedule.
 #[derive(Drop)]
 pub struct MemSink {
     bytes: Vec<u8>,
@@ -127,14 +128,15 @@ pub struct MemSink {
 }
 
 impl Model for MemSink {
-    ghost use Rattle.std.specs.Prelude.{◌<◌};
-    ghost use Rattle.thr_wire.specs.Devices.{CallSchedule, MemDevice};
+    ghost use Rattle.std.specs.Prelude.{◌-◌, ◌<◌, vec_capacity, vec_len};
+    ghost use Rattle.thr_wire.specs.Devices.{CallSchedule, MemSinkDevice};
 
-    ghost Value = { MemDevice };
+    ghost Value = { MemSinkDevice };
 
     ghost view = { λ s. record {
       bytes = s.bytes.items;
       faults = s.faults;
+      room = vec_capacity s.bytes - vec_len s.bytes;
       schedule = record { failing = s.schedule.failing.items; most = s.schedule.most; calls = s.schedule.calls };
     } };
 
@@ -149,6 +151,7 @@ impl MemSink {
         ensures { result ≡ record {
           bytes = [];
           faults = 0;
+          room = 0;
           schedule = record { failing = failing.items; most = most; calls = 0 };
         } }
     {
@@ -178,8 +181,10 @@ impl Sink for MemSink {
     fn write(&mut self, bytes: &[u8]) -> Result<usize, Failed>
         requires { 0 < length bytes.now }
 
-        // A call that is listed fails, and so may one that finds no memory; else it takes what it is given, up to the most.
+        // A call that is listed fails, and so may one that has no room and finds no memory; else it takes what it is given,
+        // up to the most.
         ensures listed { IsToFail self.old.schedule → IsErr result }
+        ensures full { OnErr result (¬ (IsToFail self.old.schedule) → self.old.room < min (length bytes.now) self.old.schedule.most) }
         ensures some { IfOk result (λ n. 0 < n) }
         ensures moved { IfOk result (λ n. n ≡ min (length bytes.now) self.old.schedule.most) }
         ensures bytes { WriteAppends (Some self.old.bytes) (Some self.new.bytes) result bytes.now }
