@@ -5,3 +5,4 @@ mod copies;
 mod onces;
 mod pipes;
 mod threads;
+mod top;

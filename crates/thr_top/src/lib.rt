@@ -5,6 +5,4 @@ mod answer;
 pub mod check;
 pub mod command;
 mod run;
-#[cfg(test)]
-mod tests;
 pub mod top;

@@ -1,9 +1,9 @@
 //! Tests of what no clause says: that memory is found, how many reads there are, and the devices of the standard library.
 
-use crate::command::{Status, Word};
-use crate::top::top;
 use std::alloc::Global;
 use std::test::Fail;
+use thr_top::command::{Status, Word};
+use thr_top::top::top;
 use thr_wire::fault::WireFault;
 use thr_wire::good::{GoodSink, GoodSource};
 use thr_wire::mem::{MemSink, MemSource};
