@@ -1,0 +1,13 @@
+pub mod EventLines
+pub mod Limits
+pub mod Processors
+pub mod ThreadsMade
+pub mod ThreadNumbers
+pub mod Depths
+pub mod StepCounts
+pub mod ScopesGiven
+pub mod StackSizes
+pub mod Numbered
+pub mod Settings
+pub mod ArrivalCounts
+pub mod ArrivalsFew
