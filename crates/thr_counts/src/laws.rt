@@ -5,6 +5,7 @@ ghost use Rattle.thr_values.specs.declared.event.Event.{Event};
 ghost use Rattle.thr_values.specs.declared.number.NameId.{NameId};
 ghost use Rattle.thr_values.specs.declared.number.Tid.{Tid};
 ghost use Rattle.thr_syntax.specs.declared.tree.Script.{Script};
+ghost use Rattle.thr_text.specs.Reading.{Formed};
 ghost use Rattle.thr_remainder.specs.Remainders.{Remainder};
 ghost use Rattle.thr_parts.specs.declared.thread.Thread.{Thread};
 ghost use Rattle.thr_parts.specs.Tables.{get, has, IsCanonical};
@@ -25,9 +26,11 @@ pub fn counts_rise_with_the_lines()
     ensures scopes { (s : Script) (n : ℕ) (x : Execution) → History s n x → (t : ℕ) (r : Remainder) → get x.state.remainders t ≡ Some r → (r.scopes ≤ length x.entries) × (r.unwindings ≤ length x.entries) }
 {}
 
-/// Where no stop holds the lines are fewer than the script's limit.
+/// Where no stop holds the lines are fewer than the script's limit, which is at most 1,000,000 in a script that keeps the
+/// rules (docs/script.md, "Faults", F18).
 pub fn lines_stay_below_the_limit()
-    ensures { (s : Script) (st : State) (count : ℕ) → stop_at s st count ≡ None → count < limit_of s }
+    ensures limit { (s : Script) (st : State) (count : ℕ) → stop_at s st count ≡ None → count < limit_of s }
+    ensures formed { (s : Script) (st : State) (count : ℕ) → Formed s → stop_at s st count ≡ None → count < 1000000 }
 {}
 
 /// In every history each stack has a size that can be set, and the setting of a thread that has not ended, and in which
