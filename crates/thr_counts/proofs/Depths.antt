@@ -1,5 +1,5 @@
 -- In every history no lock is locked more often than there are lines.
-use Rattle.std.proofs.Common.{◌≡◌, ℕ, ◌+◌, ◌-◌, ◌<◌, ◌≤◌, ℤ, Bool, true, false, List, [], ◌∷◌, ◌++◌, length, Option, Some, None, Ok, Err, refl, ap, subst, arith, length-append}
+use Rattle.std.proofs.Common.{◌≡◌, ℕ, ◌+◌, ◌<◌, ◌≤◌, ℤ, Bool, true, false, List, [], ◌∷◌, ◌++◌, length, Option, Some, None, Ok, Err, refl, ap, subst, arith, length-append}
 use Rattle.std.specs.Prelude.{if◌then◌else◌, not, nat_lt, is_none, IfSome}
 use Rattle.std.specs.Option.{option_map, unwrap_or}
 use Rattle.thr_values.specs.declared.number.NameId.{NameId}
