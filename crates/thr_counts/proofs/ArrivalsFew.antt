@@ -101,7 +101,10 @@ few_or_none false rs c = omega arith
 
 waits_adds : (st : State) (o : Waited) (rs : Rows) (before : ℕ) → rs.next_arrival ≤ before + 1 → o.rows.next_arrival ≡ rs.next_arrival
     → (given_state (record st { conds = o.conds; locks = o.locks }) o.rows o.given).rows.next_arrival ≤ before + 2048
-waits_adds st o rs before h e = let last = given_adds (record st { conds = o.conds; locks = o.locks }) o.rows o.given in two_more before rs.next_arrival _ h (subst (λ (n : ℕ). (given_state (record st { conds = o.conds; locks = o.locks }) o.rows o.given).rows.next_arrival ≤ n + 1) e last)
+waits_adds st o rs before h e =
+    let after : State = given_state (record st { conds = o.conds; locks = o.locks }) o.rows o.given in
+    let last : after.rows.next_arrival ≤ o.rows.next_arrival + 1 = given_adds (record st { conds = o.conds; locks = o.locks }) o.rows o.given in
+    two_more before rs.next_arrival after.rows.next_arrival h (subst (λ (n : ℕ). after.rows.next_arrival ≤ n + 1) e last)
 
 answered_adds : (s : Script) (st : State) (t : Tid) (call : DceCall) (ns : List ℤ) → IsCanonical st.rows.seats → length st.rows.seats ≤ most → Adds 2048 st.rows (answered s st t call ns).state
 unfolding answered

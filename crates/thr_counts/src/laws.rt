@@ -17,8 +17,8 @@ ghost use Rattle.thr_model.specs.Turns.{Made, turn_by};
 ghost use Rattle.thr_model.specs.Events.{made_by, clock_to};
 ghost use Rattle.thr_model.specs.Histories.{Execution, History, limit_of, stop_at};
 
-/// Each event makes a line. In every history the next thread number is at most two more than the lines, and there are as
-/// many lines as any lock is locked often, and as any thread has had scopes or unwindings.
+/// Each event makes a line. In every history the next thread number is at most two more than the lines; no lock is locked
+/// more often than there are lines, and no thread has had more scopes or unwindings.
 pub fn counts_rise_with_the_lines()
     ensures lines { (s : Script) (n : ℕ) (st : State) (e : Event) (made : Made) → made_by s n st e ≡ Some made → 0 < length made.lines }
     ensures numbers { (s : Script) (n : ℕ) (x : Execution) → History s n x → x.state.threads.next ≤ 2 + length x.entries }
