@@ -1,0 +1,22 @@
+//! The laws.
+
+ghost use Rattle.std.specs.Prelude.{◌≡◌, ◌≤◌, ℕ, true, length, Some, None};
+ghost use Rattle.thr_syntax.specs.declared.tree.Script.{Script};
+ghost use Rattle.thr_parts.specs.declared.thread.Thread.{Thread};
+ghost use Rattle.thr_parts.specs.Tables.{get, has};
+ghost use Rattle.thr_parts.specs.Rows.{most};
+ghost use Rattle.thr_model.specs.Histories.{Execution, History};
+
+/// In every history whoever owes something stands in a row or runs, and so does each thread in which something is left to do, and no
+/// other. Each thread that stands in a row or runs has a record and has not ended. So there are few of them.
+pub fn parts_agree_on_who_waits()
+    ensures debts { (s : Script) (n : ℕ) (x : Execution) → History s n x → (t : ℕ) → has x.state.debts t ≡ true
+        → has x.state.rows.seats t ≡ true }
+    ensures records { (s : Script) (n : ℕ) (x : Execution) → History s n x → (t : ℕ) → has x.state.rows.seats t ≡ true
+        → has x.state.threads.records t ≡ true }
+    ensures remainders { (s : Script) (n : ℕ) (x : Execution) → History s n x → (t : ℕ)
+        → has x.state.remainders t ≡ has x.state.rows.seats t }
+    ensures living { (s : Script) (n : ℕ) (x : Execution) → History s n x → (t : ℕ) (th : Thread)
+        → has x.state.rows.seats t ≡ true → get x.state.threads.records t ≡ Some th → th.ended ≡ None }
+    ensures few { (s : Script) (n : ℕ) (x : Execution) → History s n x → length x.state.rows.seats ≤ most }
+{}
