@@ -6,3 +6,5 @@ pub mod Seated
 pub mod Seatless
 pub mod Few
 pub mod Living
+pub mod WaitsKept
+pub mod WritersKept

@@ -5,11 +5,16 @@ ghost use Rattle.thr_syntax.specs.declared.tree.Script.{Script};
 ghost use Rattle.thr_parts.specs.declared.thread.Thread.{Thread};
 ghost use Rattle.thr_parts.specs.Tables.{get, has};
 ghost use Rattle.thr_parts.specs.Rows.{most};
+ghost use Rattle.thr_conds.specs.Agreement.{WaitsAgree};
+ghost use Rattle.thr_pipes.specs.Agreement.{WritersAgree};
 ghost use Rattle.thr_model.specs.Histories.{Execution, History};
 
-/// In every history whoever owes something stands in a row or runs, and so does each thread in which something is left to do, and no
-/// other. Each thread that stands in a row or runs has a record and has not ended. So there are few of them.
+/// In every history conditions and pipes agree with the rows on who waits. Whoever owes something stands in a row or runs, and so
+/// does each thread in which something is left to do, and no other. Each thread that stands in a row or runs has a record and has not
+/// ended. So there are few of them, and few waits on conditions and for times.
 pub fn parts_agree_on_who_waits()
+    ensures waits { (s : Script) (n : ℕ) (x : Execution) → History s n x → WaitsAgree x.state.conds x.state.rows }
+    ensures writers { (s : Script) (n : ℕ) (x : Execution) → History s n x → WritersAgree x.state.pipes x.state.rows }
     ensures debts { (s : Script) (n : ℕ) (x : Execution) → History s n x → (t : ℕ) → has x.state.debts t ≡ true
         → has x.state.rows.seats t ≡ true }
     ensures records { (s : Script) (n : ℕ) (x : Execution) → History s n x → (t : ℕ) → has x.state.rows.seats t ≡ true
@@ -19,4 +24,5 @@ pub fn parts_agree_on_who_waits()
     ensures living { (s : Script) (n : ℕ) (x : Execution) → History s n x → (t : ℕ) (th : Thread)
         → has x.state.rows.seats t ≡ true → get x.state.threads.records t ≡ Some th → th.ended ≡ None }
     ensures few { (s : Script) (n : ℕ) (x : Execution) → History s n x → length x.state.rows.seats ≤ most }
+    ensures waits_few { (s : Script) (n : ℕ) (x : Execution) → History s n x → length x.state.conds.waits ≤ most }
 {}

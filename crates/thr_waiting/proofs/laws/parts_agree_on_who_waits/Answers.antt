@@ -2,6 +2,8 @@ use Rattle.std.proofs.Common.{◌≡◌, ◌∙◌, sym}
 use Rattle.thr_parts.proofs.TableLaws.{has_get}
 use Rattle.thr_waiting.proofs.Seated.{history_seated}
 use Rattle.thr_waiting.proofs.Living.{seat_recorded, seat_not_ended, few_seats}
+use Rattle.thr_waiting.proofs.WaitsKept.{history_waits, few_waits}
+use Rattle.thr_waiting.proofs.WritersKept.{history_writers}
 use Rattle.thr_waiting.proofs.laws.parts_agree_on_who_waits.Goals as goal
 
 pub returns-clause-debts : goal.returns-clause-debts
@@ -18,3 +20,12 @@ returns-clause-living c = λ s n x h t th e at. seat_not_ended h t th e at
 
 pub returns-clause-few : goal.returns-clause-few
 returns-clause-few c = λ s n x h. few_seats h
+
+pub returns-clause-waits : goal.returns-clause-waits
+returns-clause-waits c = λ s n x h. history_waits h
+
+pub returns-clause-writers : goal.returns-clause-writers
+returns-clause-writers c = λ s n x h. history_writers h
+
+pub returns-clause-waits_few : goal.returns-clause-waits_few
+returns-clause-waits_few c = λ s n x h. few_waits h
