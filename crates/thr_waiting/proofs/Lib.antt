@@ -8,3 +8,4 @@ pub mod Few
 pub mod Living
 pub mod WaitsKept
 pub mod WritersKept
+pub mod MutexNames
