@@ -45,7 +45,7 @@ seat_not_ended h t th e is = none_of th.ended (sym (ap is_living is) ∙ seat_li
 
 -- ---- how many
 
-at_most : (a b c : ℕ) → a ≤ b → b ≤ c → a ≤ c
+pub at_most : (a b c : ℕ) → a ≤ b → b ≤ c → a ≤ c
 at_most a b c h k = omega (arith, h, k)
 
 pub few_seats : {s : Script} {n : ℕ} {x : Execution} → History s n x → length x.state.rows.seats ≤ most

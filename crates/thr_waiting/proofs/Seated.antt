@@ -30,7 +30,7 @@ use Rattle.thr_parts.specs.OnceBlocks as once
 use Rattle.thr_parts.proofs.EntryLaws.{itself}
 use Rattle.thr_parts.proofs.TableLaws.{get_none, get_put, get_cut}
 use Rattle.thr_laws.proofs.ReadingLaws.{AllLines}
-use Rattle.thr_model.specs.States.{State, Debt, Return, Running, rank_of, with_remainder, all_owe, opening}
+use Rattle.thr_model.specs.States.{State, Debt, Return, Running, rank_of, all_owe, opening}
 use Rattle.thr_model.specs.Calls.{answered, ready_if, first}
 use Rattle.thr_model.specs.Turns.{handed_on, freed, thread_ended}
 use Rattle.thr_model.specs.Events.{clock_to}
@@ -38,11 +38,11 @@ use Rattle.thr_model.specs.Histories.{Execution, History}
 use Rattle.thr_answers.specs.Statuses.{Absent, status_of}
 use Rattle.thr_answers.proofs.StatusMoves.{with_put, Becomes}
 use Rattle.thr_answers.proofs.StatusRows.{all_map, all_numbers, all_in_order, all_found}
-use Rattle.thr_answers.proofs.StatusCalls.{IsCalling, IsNoCreation}
+use Rattle.thr_answers.proofs.StatusCalls.{IsCalling}
 use Rattle.thr_answers.proofs.StatusLives.{runs_still}
 use Rattle.thr_answers.proofs.StatusTurns.{InOrder, HasRun, calls_calmly, absent_parts, ended_goes}
 use Rattle.thr_answers.proofs.AnswerTurns.{agrees}
-use Rattle.thr_waiting.proofs.EventsKept.{IsKnown, IsKeptByEvents, history_kept}
+use Rattle.thr_waiting.proofs.EventsKept.{IsKeptByEvents, history_kept}
 use Rattle.thr_waiting.proofs.SeatsStay.{SameNumbers, there_with, Sits, Stay, AllSit, best_sits, row_all_sit, comes_stays, keeps_stays, dispatch_stays, free_row_stays, wake_all_stays}
 use Rattle.thr_waiting.proofs.Owers.{OwersSit, put_sits, cut_sits, all_owe_sits, due_owe_sits, woken_are, moved_sits}
 use Rattle.thr_waiting.proofs.CallsSeated.{IsLeft, IfSits, answered_left}

@@ -1,5 +1,5 @@
 -- Whatever becomes of threads in rows and on processors, those that have a seat keep one, and no others come to have one.
-use Rattle.std.proofs.Common.{◌≡◌, ℕ, Bool, true, false, cond, eqb, List, [], ◌∷◌, Option, Some, None, refl, sym, ◌∙◌, ap, subst}
+use Rattle.std.proofs.Common.{◌≡◌, ℕ, Bool, true, false, cond, eqb, List, [], ◌∷◌, Option, Some, None, refl, sym, ◌∙◌, ap}
 use Rattle.std.proofs.lemmas.Bool.{eqb-true}
 use Rattle.std.specs.Prelude.{if◌then◌else◌}
 use Rattle.std.specs.Option.{option_map, is_some, is_none}
@@ -10,7 +10,7 @@ use Rattle.thr_parts.specs.declared.row.RowId.TheVariants as row
 use Rattle.thr_parts.specs.declared.row.Place.TheVariants.{Runs, Stands}
 use Rattle.thr_parts.specs.declared.row.Seat.{Seat}
 use Rattle.thr_parts.specs.Tables.{Table, get, put, put_if, keep_if, IsCanonical}
-use Rattle.thr_parts.specs.Rows.{Rows, Seated, thread, seat_of, row_at, is_in_row, is_running, standing, best_of, number_in, best, best_first}
+use Rattle.thr_parts.specs.Rows.{Rows, thread, seat_of, row_at, is_in_row, is_running, standing, best_of, number_in, best, best_first}
 use Rattle.thr_parts.specs.Moves.{as_ranked, put_in_row, take_out, take_out_if, block_in, block_if, set_rank, make_ready, make_all_ready, free_row}
 use Rattle.thr_parts.specs.Dispatch.{running, next_for, with_processor, dispatch, whole_slice, as_kept, keeps}
 use Rattle.thr_parts.specs.Mutexes.{Locks, mutex_at}

@@ -1,5 +1,5 @@
 -- In every history conditions and rows agree on who waits on a condition or for a time.
-use Rattle.std.proofs.Common.{◌≡◌, ℕ, ◌≤◌, ℤ, Bool, true, false, ◌&&◌, List, length, Option, Some, None, arith, refl, sym, ◌∙◌, ap}
+use Rattle.std.proofs.Common.{◌≡◌, ℕ, ◌≤◌, ℤ, Bool, true, false, ◌&&◌, List, length, Option, Some, None, refl, sym, ◌∙◌, ap}
 use Rattle.std.proofs.lemmas.Bool.{false≢true}
 use Rattle.std.specs.Option.{is_some}
 use Rattle.thr_values.specs.declared.number.NameId.{NameId}
@@ -46,7 +46,7 @@ use Rattle.thr_answers.proofs.StatusTurns.{InOrder}
 use Rattle.thr_answers.proofs.AnswerTurns.{agrees}
 use Rattle.thr_waiting.proofs.EventsKept.{IsKeptByEvents, history_kept}
 use Rattle.thr_waiting.proofs.Seatless.{next_no_row, run_no_row}
-use Rattle.thr_waiting.proofs.Living.{few_seats}
+use Rattle.thr_waiting.proofs.Living.{at_most, few_seats}
 
 -- ---- threads that become ready
 
@@ -203,11 +203,8 @@ wait_sits : (cs : Conds) (rs : Rows) (t : ℕ) → WaitsAgree cs rs → has cs.w
 wait_sits cs rs t h e =
     has_get rs.seats t ∙ row_seat (get rs.seats t) (rows.waits_in_row wait_rows cs.waits rs (thread t) (agree_in cs rs h) (sym (has_get cs.waits t) ∙ e))
 
-below : (a b c : ℕ) → a ≤ b → b ≤ c → a ≤ c
-below a b c h k = omega (arith, h, k)
-
 pub few_waits : {s : Script} {n : ℕ} {x : Execution} → History s n x → length x.state.conds.waits ≤ most
 few_waits {x = x} h =
     let tables : IsCanonicalState x.state = canonical-state h in
-    below (length x.state.conds.waits) (length x.state.rows.seats) most
+    at_most (length x.state.conds.waits) (length x.state.rows.seats) most
     (not_longer x.state.conds.waits x.state.rows.seats tables.waits (λ t e. wait_sits x.state.conds x.state.rows t (history_waits h) e)) (few_seats h)

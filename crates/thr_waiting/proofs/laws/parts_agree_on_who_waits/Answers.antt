@@ -1,4 +1,4 @@
-use Rattle.std.proofs.Common.{◌≡◌, ◌∙◌, sym}
+use Rattle.std.proofs.Common.{◌∙◌, sym}
 use Rattle.thr_parts.proofs.TableLaws.{has_get}
 use Rattle.thr_waiting.proofs.Seated.{history_seated}
 use Rattle.thr_waiting.proofs.Living.{seat_recorded, seat_not_ended, few_seats}
