@@ -1,0 +1,4 @@
+pub mod SetLines
+pub mod WritesNamed
+pub mod DeclaredNames
+pub mod DeclaredKept
