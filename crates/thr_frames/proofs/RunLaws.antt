@@ -17,11 +17,12 @@ use Rattle.thr_remainder.specs.Outward.{Meeting, Drops, Begins, Undoes, Loses, m
 use Rattle.thr_remainder.specs.Next.{Next, GoesOutward, UndoesOnce, EndsThread, EndsOnce, Shares, IsAtPoint, StepsQuietly, next_by, outward_or_undone, next_outward, next_at, next_end, next_shared, next}
 use Rattle.thr_remainder.specs.Runs as runs
 use Rattle.thr_remainder.specs.Runs.{is_deliverable, outward_move}
+use Rattle.thr_stack.specs.declared.frame.Frame.{Frame}
 use Rattle.thr_stack.specs.declared.context.Context.{Context}
 use Rattle.thr_stack.specs.declared.next.Stood.TheVariants as stood
 use Rattle.thr_stack.specs.FrameLists.{AtOnce}
-use Rattle.thr_stack.specs.Sights.{shared_of}
-use Rattle.thr_stack.specs.Standing.{IsGood, Makes, Steps, remainder_of, setting_of}
+use Rattle.thr_stack.specs.Sights.{listed, shared_of}
+use Rattle.thr_stack.specs.Standing.{IsGood, Makes, Steps, items_of, remainder_of, setting_of}
 use Rattle.thr_stack.specs.Unwinds.{GoesOut}
 use Rattle.thr_stack.specs.Nexts.{IsNext}
 use Rattle.thr_stack.proofs.NextLaws.{next_undoes, goes_outward}
@@ -242,16 +243,16 @@ module _ (s : Script) (mode : Mode) (old mid : Context) (before between : List W
   }
 
   pub pass_undoes : IsNext s mid stood.Undoes → Passed s mode old mid before between (Some stopped.OnceUndone)
-  pass_undoes f = halted (UndoesOnce f.0 f.1) (runs.Undoes f.0 f.1) stopped.OnceUndone f.2 (λ more. refl) (f.0, f.1, refl)
+  pass_undoes f = halted (UndoesOnce f.0 f.1) (runs.Undoes f.0 f.1) stopped.OnceUndone f.2 (λ more. refl) (f.0, f.1, f.2, refl)
 
   pub pass_ended : IsNext s mid stood.Ended → Passed s mode old mid before between (Some (stopped.Ended mid.value))
-  pass_ended f = halted EndsThread runs.Ends (stopped.Ended mid.value) f.0 (λ more. refl) (refl, refl)
+  pass_ended f = halted EndsThread runs.Ends (stopped.Ended mid.value) f.0 (λ more. refl) (refl, refl, ap (λ (is : List Frame). items_of s mid.line (listed mid.locals) is) f.1)
 
   module _ (f : IsNext s mid stood.EndsOnce) where
     pub pass_once : is_deliverable mode false ≡ false → Passed s mode old mid before between (Some stopped.OnceDone)
     pass_once d =
         let m = quiet (setting_of s mid) (remainder_of s mid) in
-        halted (EndsOnce f.0 m) (runs.Completes f.0 m) stopped.OnceDone f.1 (settled (EndsOnce f.0 m) (runs.Completes f.0 m) false false d (λ more. refl)) (f.0, m, refl)
+        halted (EndsOnce f.0 m) (runs.Completes f.0 m) stopped.OnceDone f.1 (settled (EndsOnce f.0 m) (runs.Completes f.0 m) false false d (λ more. refl)) (f.0, m, f.1, refl)
 
     pub deliver_once : is_deliverable mode false ≡ true → Passed s mode old mid before between (Some (stopped.Async (at mid.line)))
     deliver_once d =

@@ -1,12 +1,12 @@
 -- Quiet parts of turns (docs/machine.md, "Turns").
-use Rattle.std.specs.Prelude.{◌≡◌, ℕ, List, Bool, true, false, Some}
+use Rattle.std.specs.Prelude.{◌≡◌, ℕ, List, [], Bool, true, false, Some}
 use Rattle.thr_values.specs.declared.number.NameId.{NameId}
 use Rattle.thr_values.specs.declared.history.What.{What}
 use Rattle.thr_values.specs.declared.scheduling.Mode.{Mode}
 use Rattle.thr_syntax.specs.declared.tree.Script.{Script}
 use Rattle.thr_remainder.specs.Remainders.{Setting, Remainder, Move, Spot, At, place_in}
 use Rattle.thr_remainder.specs.Starts.{line_of_next}
-use Rattle.thr_remainder.specs.Next.{Next, IsAtPoint, next}
+use Rattle.thr_remainder.specs.Next.{Next, UndoesOnce, EndsOnce, IsAtPoint, next}
 use Rattle.thr_remainder.specs.Runs.{Halt, Delivers, Shares, Undoes, Completes, Ends, Pauses, run_of, most_steps}
 use Rattle.thr_frames.specs.declared.stopped.Stopped.{Stopped}
 use Rattle.thr_frames.specs.declared.stopped.Stopped.TheVariants as stopped
@@ -31,9 +31,9 @@ IsHalt g r (stopped.Shared line) h = (spot : Spot) × (spot.line ≡ line.0) × 
 IsHalt g r (stopped.Point line) h = IsDelivered g r true line.0 h
 IsHalt g r (stopped.Async line) h = IsDelivered g r false line.0 h
 IsHalt g r stopped.Paused h = h ≡ Pauses
-IsHalt g r (stopped.Ended value) h = (h ≡ Ends) × (value ≡ r.value)
-IsHalt g r stopped.OnceDone h = (block : NameId) × (move : Move) × (h ≡ Completes block move)
-IsHalt g r stopped.OnceUndone h = (block : NameId) × (move : Move) × (h ≡ Undoes block move)
+IsHalt g r (stopped.Ended value) h = (h ≡ Ends) × (value ≡ r.value) × (r.items ≡ [])
+IsHalt g r stopped.OnceDone h = (block : NameId) × (move : Move) × (next g r ≡ EndsOnce block move) × (h ≡ Completes block move)
+IsHalt g r stopped.OnceUndone h = (block : NameId) × (move : Move) × (next g r ≡ UndoesOnce block move) × (h ≡ Undoes block move)
 
 -- The quiet part of a turn was run, and these are its lines (docs/machine.md, "Turns").
 pub record RanTo (s : Script) (mode : Mode) (old new : Context) (lines : List What) (x : Stopped) : Type 0 where
