@@ -21,9 +21,9 @@ use Rattle.thr_stack.specs.declared.frame.Locals.{Locals}
 use Rattle.thr_stack.specs.declared.frame.Frame.{Frame}
 use Rattle.thr_stack.specs.declared.context.Context.{Context}
 use Rattle.thr_stack.specs.Sights.{listed}
-use Rattle.thr_stack.specs.Standing.{IsGood, Stands, Makes, items_of, remainder_of, setting_of}
+use Rattle.thr_stack.specs.Standing.{AreFrames, IsGood, Stands, Makes, items_of, remainder_of, setting_of}
 use Rattle.thr_stack.proofs.LocalLaws.{with_local_is}
-use Rattle.thr_stack.proofs.Sites.{site, spot, place_is, good_at}
+use Rattle.thr_stack.proofs.Sites.{site, spot, place_is, good_at, good_set, good_with}
 use Rattle.thr_frames.specs.Replies.{stores_by, stores_at, locals_with, IsBehind}
 use Rattle.thr_frames.specs.Stacks.{asked_by}
 use Rattle.thr_frames.proofs.StackLaws.{asked_at}
@@ -34,6 +34,11 @@ stored_items : (s : Script) (xs : List (Var × ℤ)) (line : ℕ) (locals : List
 stored_items s [] line locals fs = refl
 stored_items s ((Local p, n) ∷ xs) line locals fs = ap (stored_in xs) (with_local_is s p n line locals fs) ∙ stored_items s xs line (slice_set locals p n) fs
 stored_items s ((Shared name, n) ∷ xs) line locals fs = stored_items s xs line locals fs
+
+good_locals : (s : Script) (xs : List (Var × ℤ)) (line : ℕ) (locals : List ℤ) (fs : List Frame) → AreFrames s line locals fs → AreFrames s line (locals_with xs locals) fs
+good_locals s [] line locals fs h = h
+good_locals s ((Local p, n) ∷ xs) line locals fs h = good_locals s xs line (slice_set locals p n) fs (good_set s p n line locals fs h)
+good_locals s ((Shared name, n) ∷ xs) line locals fs h = good_locals s xs line locals fs h
 
 -- The call is behind, where its values are in the locals.
 pub goes_past : (s : Script) (k : Context) (call : DceCall) (reply : Reply) (xs : List (Var × ℤ)) (locals : Locals) (err : ℤ) → Stands s k → StatementAt (line_at s) (last_line s) k.line (Asks call) true →
@@ -49,7 +54,8 @@ goes_past s k call reply xs locals err h a xs_are locals_are err_is =
       to = (λ i. record r { items = items_of s (k.line + 1) (same i) (t.items i); err = err_is i })
           ∙ ap (λ (is : List Item). record r { items = is; err = errno_of reply }) (sym (stored_items s (stores call reply) (k.line + 1) (listed k.locals) (t.frame ∷ t.outer)));
       setting = refl;
-      good = good_at s k.line (k.line + 1) k.frames.items (omega arith, omega (arith, a.inside)) h.good;
+      good = good_at s k.line (k.line + 1) (listed locals) k.frames.items (omega arith, omega (arith, a.inside))
+          (good_with s k.line (locals_with (stores call reply) (listed k.locals)) (listed locals) k.frames.items same (good_locals s (stores call reply) k.line (listed k.locals) k.frames.items h.good));
     }
 
 -- ---- the call

@@ -8,9 +8,8 @@ use Rattle.thr_syntax.specs.declared.form.Form.{Form}
 use Rattle.thr_syntax.specs.declared.form.Form.TheVariants as form
 use Rattle.thr_syntax.specs.declared.tree.Script.{Script}
 use Rattle.thr_remainder.specs.declared.unwinding.Unwinding.{Unwinding}
-use Rattle.thr_remainder.specs.Places.{Left, nothing, Ways}
+use Rattle.thr_remainder.specs.Places.{nothing, Ways}
 use Rattle.thr_remainder.specs.Remainders.{Item, Finishing, Move}
-use Rattle.thr_remainder.specs.Expressions.{SharedValues}
 use Rattle.thr_remainder.specs.Starts.{still}
 use Rattle.thr_remainder.specs.Steps.{ended, stored, kept, items_tried, line_tried, leaves}
 use Rattle.thr_lines.specs.declared.row.Row.{Row}
@@ -23,10 +22,10 @@ use Rattle.thr_stack.specs.declared.frame.Frame.{Frame}
 use Rattle.thr_stack.specs.declared.context.Context.{Context}
 use Rattle.thr_stack.specs.FrameLists.{FramesView}
 use Rattle.thr_stack.specs.Sights.{listed}
-use Rattle.thr_stack.specs.Standing.{role_of, below, items_of, remainder_of, setting_of, IsLine, IsKind, IsBottom, AreFrames, Stands, StepsAnyhow, kept_by, Ends}
+use Rattle.thr_stack.specs.Standing.{role_of, below, items_of, remainder_of, setting_of, IsLine, IsKind, AreFrames, Stands, StepsAnyhow, stored_list, kept_by, Ends}
 use Rattle.thr_stack.specs.Statements.{IsReturned}
 use Rattle.thr_stack.proofs.LocalLaws.{stored_is, kept_is}
-use Rattle.thr_stack.proofs.Sites.{ends_is, steps_by, bottom_at}
+use Rattle.thr_stack.proofs.Sites.{ends_is, steps_by, good_stored, good_with}
 
 -- ---- lines
 
@@ -72,22 +71,27 @@ ends_catches s first row form.End a w none = absurd w
 -- ---- ends
 
 module _ (s : Script) (k : Context) (n : List What) (h : Stands s k) (here : (line_at s k.line).left ≡ nothing k.line) (f : Frame) (frames : FramesView) (items : k.frames.items ≡ f ∷ frames.items) (size : frames.size ≡ k.frames.size) where
-  frames_good : AreFrames s k.line (f ∷ frames.items)
-  frames_good = subst (AreFrames s k.line) items h.good
+  frames_good : AreFrames s k.line (listed k.locals) (f ∷ frames.items)
+  frames_good = subst (AreFrames s k.line (listed k.locals)) items h.good
+
+  -- The frames below a frame of this kind.
+  below_good : (x : Kind) → f.kind ≡ x → AreFrames s f.back (below (listed k.locals) x) frames.items
+  unfolding frames_good
+  below_good x is = good_with s f.back (below (listed k.locals) f.kind) (below (listed k.locals) x) frames.items (ap (below (listed k.locals)) (sym is)) frames_good.2
 
   -- A frame is left: its locals are those of the context.
   left_frame : (x : Kind) (pending : Option Unwinding) (line : What) (more : List What) → f.kind ≡ x → below (listed k.locals) x ≡ listed k.locals →
       ended (role_of s (listed k.locals) x) (items_of s f.back (below (listed k.locals) x) frames.items) (remainder_of s k) ≡
       record { to = record (remainder_of s k) { items = items_of s f.back (below (listed k.locals) x) frames.items; under_way = pending }; lines = line ∷ [] } →
       more ≡ n ++ line ∷ [] → StepsAnyhow s k (record k { frames = frames; line = f.back; under_way = pending }) n more
-  unfolding frames_good
+  unfolding frames_good below_good
   left_frame x pending line more is same step w tells shared =
       let r = remainder_of s k in
       let move : List Item → Move = λ is. record { to = record r { items = is; under_way = pending }; lines = line ∷ [] } in
       steps_by s k (record k { frames = frames; line = f.back; under_way = pending }) n more tells shared (move (items_of s f.back (listed k.locals) frames.items))
       (ends_is s k f frames.items tells shared items here ∙ ap (λ (y : Kind). ended (role_of s (listed k.locals) y) (items_of s f.back (below (listed k.locals) y) frames.items) r) is
       ∙ step ∙ ap (λ ls. move (items_of s f.back ls frames.items)) same)
-      (record { to = refl; lines = w; setting = ap (λ z. record (setting_of s k) { size = z }) size; good = frames_good.3 })
+      (record { to = refl; lines = w; setting = ap (λ z. record (setting_of s k) { size = z }) size; good = good_with s f.back (below (listed k.locals) x) (listed k.locals) frames.items (sym same) (below_good x is) })
 
   pub leave_catch : (scope : ℕ) (caught : Exc) (more : List What) → f.kind ≡ kind.Catch scope caught → more ≡ n ++ what.Endcatch scope ∷ [] → StepsAnyhow s k (record k { frames = frames; line = f.back }) n more
   leave_catch scope caught more is w = left_frame (kind.Catch scope caught) k.under_way (what.Endcatch scope) more is refl refl w
@@ -109,12 +113,11 @@ module _ (s : Script) (k : Context) (n : List What) (h : Stands s k) (here : (li
 
   pub leave_into_finally : (scope first : ℕ) (all : FramesView) (more : List What) → f.kind ≡ kind.Try scope first → Ends s first true → all ≡ record frames { items = record { kind = kind.Finally scope None; back = f.back } ∷ frames.items } →
       more ≡ n ++ what.Finally scope 0 ∷ [] → StepsAnyhow s k (record k { frames = all; line = first + 1 }) n more
-  unfolding frames_good
+  unfolding frames_good below_good
   leave_into_finally scope first all more is ways all_is w =
       let r = remainder_of s k in
       let outer = items_of s f.back (listed k.locals) frames.items in
       let whole : FramesView = record frames { items = record { kind = kind.Finally scope None; back = f.back } ∷ frames.items } in
-      let bottom : IsBottom (kind.Try scope first) frames.items = subst (λ (x : Kind). IsBottom x frames.items) is frames_good.2 in
       let moved : StepsAnyhow s k (record k { frames = whole; line = first + 1 }) n more = λ tells shared.
       steps_by s k (record k { frames = whole; line = first + 1 }) n more tells shared
       (leaves (record { role = Finishing scope None; inside = (line_at s (first + 1)).left } ∷ outer) (what.Finally scope 0) r)
@@ -124,12 +127,12 @@ module _ (s : Script) (k : Context) (n : List What) (h : Stands s k) (here : (li
         to = refl;
         lines = w;
         setting = ap (λ z. record (setting_of s k) { size = z }) size;
-        good = (ways.0, tt, bottom_at (kind.Try scope first) (kind.Finally scope None) frames.items bottom (λ z. z), frames_good.3);
+        good = (ways.0, tt, below_good (kind.Try scope first) is);
       }) in
       subst (λ (p : FramesView). StepsAnyhow s k (record k { frames = p; line = first + 1 }) n more) (sym all_is) moved
 
   pub leave_call : (place : Option ℕ) (saved : Locals) (new : Context) → f.kind ≡ kind.Call place saved → IsReturned (record k { frames = frames }) new place saved f.back (pos 0) → StepsAnyhow s k new n n
-  unfolding frames_good
+  unfolding frames_good below_good
   leave_call place saved new is ret =
       let r = remainder_of s k in
       let move : List Item → ℤ → Move = λ is v. still (record r { items = is; value = v }) in
@@ -143,7 +146,7 @@ module _ (s : Script) (k : Context) (n : List What) (h : Stands s k) (here : (li
             ∙ ap (λ (x : List Item). (move x (kept outer (pos 0) k.value)).to) (sym (stored_is s place (pos 0) f.back (listed saved) frames.items)));
         lines = sym (append-nil n);
         setting = ap (λ z. record (setting_of s k) { size = z }) size;
-        good = frames_good.3;
+        good = good_with s f.back (stored_list place (pos 0) (listed saved)) (listed new.locals) frames.items ret.stored (good_stored s place (pos 0) f.back (listed saved) frames.items (below_good (kind.Call place saved) is));
       }) in
       subst (λ (x : Context). StepsAnyhow s k x n n) (sym ret.same) moved
 

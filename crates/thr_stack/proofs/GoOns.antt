@@ -1,17 +1,16 @@
 -- What is left after statements that are no exit.
-use Rattle.std.proofs.Common.{◌≡◌, ◌≢◌, ℕ, ◌+◌, ◌-◌, ◌<◌, ◌≤◌, ℤ, List, [], ◌∷◌, length, slice_set, Option, Some, None, Bool, true, false, if◌then◌else◌, unwrap_or, refl, ap, sym, ◌∙◌, subst, arith}
+use Rattle.std.proofs.Common.{◌≡◌, ℕ, ◌+◌, ℤ, List, ◌∷◌, slice_set, Option, Some, None, Bool, true, false, if◌then◌else◌, unwrap_or, refl, ap, sym, ◌∙◌, subst, arith}
 use Rattle.thr_values.specs.declared.number.NameId.{NameId}
 use Rattle.thr_syntax.specs.declared.expr.Var.TheVariants as variable
 use Rattle.thr_syntax.specs.declared.expr.Expr.{Expr}
-use Rattle.thr_syntax.specs.declared.form.Form.TheVariants as form
 use Rattle.thr_syntax.specs.declared.tree.Script.{Script}
 use Rattle.thr_remainder.specs.Places.{Left}
 use Rattle.thr_remainder.specs.Acts.{Act, Sets, Says, Chooses, Repeats, Calls, Returns}
-use Rattle.thr_remainder.specs.Declarations.{Entry, no_entry, entry_of, routine_of}
+use Rattle.thr_remainder.specs.Declarations.{Entry, no_entry, entry_of}
 use Rattle.thr_remainder.specs.Remainders.{Item, Calling, Remainder}
 use Rattle.thr_remainder.specs.Expressions.{is_true}
-use Rattle.thr_remainder.specs.Starts.{at, calling, first_locals}
-use Rattle.thr_remainder.specs.Steps.{after, stored, kept, place_for}
+use Rattle.thr_remainder.specs.Starts.{at, calling}
+use Rattle.thr_remainder.specs.Steps.{after, kept, place_for}
 use Rattle.thr_lines.specs.declared.row.Row.{Row}
 use Rattle.thr_lines.specs.Layout.{line_at, last_line}
 use Rattle.thr_lines.specs.AtLines.{StatementAt, IfAt, WhileAt}
@@ -25,16 +24,16 @@ use Rattle.thr_stack.specs.Sights.{listed}
 use Rattle.thr_stack.specs.Standing.{role_of, below, items_of, remainder_of, setting_of, IsLine, AreFrames, Stands, stored_list, kept_by}
 use Rattle.thr_stack.specs.Statements.{GoesOn, IsEntered, IsReturned, HasReturned}
 use Rattle.thr_stack.proofs.LocalLaws.{with_local_is, stored_is, kept_is}
-use Rattle.thr_stack.proofs.Sites.{Site, site, spot, after_is, good_at, bottom_call, some_line}
+use Rattle.thr_stack.proofs.Sites.{Site, site, spot, after_is, good_at, good_set, good_stored, good_with, some_line}
 
 module _ (s : Script) (k : Context) (h : Stands s k) (n : ℤ) where
   -- A step that stays in its frame.
-  stays : (rest : Left) (act : Act) (shared : Bool) (l : ℕ) (locals : Locals) → (t : Site s k rest act) → IsLine s l →
+  stays : (rest : Left) (act : Act) (shared : Bool) (l : ℕ) (locals : Locals) → (t : Site s k rest act) → IsLine s l → AreFrames s k.line (listed locals) k.frames.items →
       after (setting_of s k) act n (spot s k rest act t) (remainder_of s k) ≡ record (remainder_of s k) { items = items_of s l (listed locals) (t.frame ∷ t.outer) } → GoesOn s n k (record k { line = l; locals = locals })
-  stays rest act shared l locals t i does = record {
+  stays rest act shared l locals t i good does = record {
     to = ap (λ (is : List Frame). record (remainder_of s k) { items = items_of s l (listed locals) is }) t.items ∙ sym (after_is s k rest act t n ∙ does);
     setting = refl;
-    good = good_at s k.line l k.frames.items i h.good;
+    good = good_at s k.line l (listed locals) k.frames.items i good;
   }
 
   pub goes_local : (p : ℕ) (e : Expr) (shared : Bool) (locals : Locals) → StatementAt (line_at s) (last_line s) k.line (Sets (variable.Local p) e) shared → listed locals ≡ slice_set (listed k.locals) p n →
@@ -42,17 +41,18 @@ module _ (s : Script) (k : Context) (h : Stands s k) (n : ℤ) where
   goes_local p e shared locals a is =
       let t = site s k _ (Sets (variable.Local p) e) shared h.some a.does in
       stays _ (Sets (variable.Local p) e) shared (k.line + 1) locals t (omega arith, omega (arith, a.inside))
+      (good_with s k.line (slice_set (listed k.locals) p n) (listed locals) k.frames.items is (good_set s p n k.line (listed k.locals) k.frames.items h.good))
       (ap (λ (is : List Item). record (remainder_of s k) { items = is })
       (with_local_is s p n (k.line + 1) (listed k.locals) (t.frame ∷ t.outer) ∙ ap (λ (ls : List ℤ). items_of s (k.line + 1) ls (t.frame ∷ t.outer)) (sym is)))
 
   pub goes_shared : (name : NameId) (e : Expr) (shared : Bool) → StatementAt (line_at s) (last_line s) k.line (Sets (variable.Shared name) e) shared → GoesOn s n k (record k { line = k.line + 1 })
   goes_shared name e shared a =
       let t = site s k _ (Sets (variable.Shared name) e) shared h.some a.does in
-      stays _ (Sets (variable.Shared name) e) shared (k.line + 1) k.locals t (omega arith, omega (arith, a.inside)) refl
+      stays _ (Sets (variable.Shared name) e) shared (k.line + 1) k.locals t (omega arith, omega (arith, a.inside)) h.good refl
 
   pub goes_say : (e : Expr) (shared : Bool) → StatementAt (line_at s) (last_line s) k.line (Says e) shared → GoesOn s n k (record k { line = k.line + 1 })
   goes_say e shared a =
-      let t = site s k _ (Says e) shared h.some a.does in stays _ (Says e) shared (k.line + 1) k.locals t (omega arith, omega (arith, a.inside)) refl
+      let t = site s k _ (Says e) shared h.some a.does in stays _ (Says e) shared (k.line + 1) k.locals t (omega arith, omega (arith, a.inside)) h.good refl
 
   -- ---- if and while
 
@@ -63,7 +63,7 @@ module _ (s : Script) (k : Context) (h : Stands s k) (n : ℤ) where
     chosen : (b : Bool) (l : ℕ) → is_true n ≡ b → IsLine s l → (if b then (line_at s (k.line + 1)).left else (line_at s (a.next + 1)).left) ≡ (line_at s l).left → GoesOn s n k (record k { line = l })
     chosen b l test i left =
         let t = site s k _ chooses _ h.some a.does in
-        stays _ chooses true l k.locals t i
+        stays _ chooses true l k.locals t i h.good
         (ap (λ (x : Left). record (remainder_of s k) { items = record { role = role_of s (listed k.locals) t.frame.kind; inside = x } ∷ items_of s t.frame.back (below (listed k.locals) t.frame.kind) t.outer })
         (ap (λ (c : Bool). if c then (line_at s (k.line + 1)).left else (line_at s (a.next + 1)).left) test ∙ left))
 
@@ -82,7 +82,7 @@ module _ (s : Script) (k : Context) (h : Stands s k) (n : ℤ) where
     repeated : (b : Bool) (l : ℕ) → is_true n ≡ b → IsLine s l → (if b then (line_at s (k.line + 1)).left else (line_at s a.after).left) ≡ (line_at s l).left → GoesOn s n k (record k { line = l })
     repeated b l test i left =
         let t = site s k _ repeats _ h.some a.does in
-        stays _ repeats true l k.locals t i
+        stays _ repeats true l k.locals t i h.good
         (ap (λ (x : Left). record (remainder_of s k) { items = record { role = role_of s (listed k.locals) t.frame.kind; inside = x } ∷ items_of s t.frame.back (below (listed k.locals) t.frame.kind) t.outer })
         (ap (λ (c : Bool). if c then (line_at s (k.line + 1)).left else (line_at s a.after).left) test ∙ left))
 
@@ -112,7 +112,7 @@ module _ (s : Script) (k : Context) (h : Stands s k) (n : ℤ) where
       let made_here : GoesOn s n k (there all) = record {
         to = (λ i. record r { items = new_item i ∷ rest (t.items i) }) ∙ sym (after_is s k _ (Calls name e place) t n);
         setting = refl;
-        good = ((entered.body.from, omega (arith, entered.body.to, entered.body.inside)), tt, bottom_call place k.locals k.frames.items, good_at s k.line (k.line + 1) k.frames.items (omega arith, omega (arith, a.inside)) h.good);
+        good = ((entered.body.from, omega (arith, entered.body.to, entered.body.inside)), tt, good_at s k.line (k.line + 1) (listed k.locals) k.frames.items (omega arith, omega (arith, a.inside)) h.good);
       } in
       subst (GoesOn s n k) (sym entered.same) (subst (λ (f : FramesView). GoesOn s n k (there f)) (sym is) made_here)
 
@@ -128,13 +128,13 @@ module _ (s : Script) (k : Context) (h : Stands s k) (n : ℤ) where
       let outer = items_of s f.back (below (listed k.locals) f.kind) fs in
       let move : List Item → ℤ → Remainder = λ is v. record r { items = is; value = v } in
       let there : Context = record k { frames = new.frames; line = f.back; locals = new.locals; value = kept_by fs n k.value } in
-      let good : AreFrames s k.line (f ∷ fs) = subst (AreFrames s k.line) ret.items h.good in
+      let good : AreFrames s k.line (listed k.locals) (f ∷ fs) = subst (AreFrames s k.line (listed k.locals)) ret.items h.good in
       let moved : GoesOn s n k there = record {
         to = (λ i. move (items_of s f.back (ret.locals s i) fs) (sym (kept_is s f.back (below (listed k.locals) f.kind) fs n k.value) i))
             ∙ ap (λ (x : List Item). move x (kept outer n k.value)) (sym (stored_is s place n f.back (below (listed k.locals) f.kind) fs))
             ∙ sym (after_is s k _ (Returns e) t n);
         setting = ap (λ (z : ℕ). record (setting_of s k) { size = z }) ret.size;
-        good = good.3;
+        good = good_with s f.back (stored_list place n (below (listed k.locals) f.kind)) (listed new.locals) fs (ret.locals s) (good_stored s place n f.back (below (listed k.locals) f.kind) fs good.2);
       } in
       subst (GoesOn s n k) (sym ret.same) moved
 

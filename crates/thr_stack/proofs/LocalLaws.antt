@@ -1,5 +1,5 @@
 -- Locals, and what expressions see of frames.
-use Rattle.std.proofs.Common.{◌≡◌, ◌≢◌, ℕ, zero, suc, ◌≤◌, ℤ, pos, List, [], ◌∷◌, length, take, replicate, slice_set, Option, Some, None, refl, ap, sym, ◌∙◌, arith}
+use Rattle.std.proofs.Common.{◌≡◌, ℕ, zero, suc, ◌≤◌, ℤ, pos, List, [], ◌∷◌, length, take, replicate, slice_set, Option, Some, None, refl, ap, sym, ◌∙◌, arith}
 use Rattle.thr_values.specs.declared.exception.Exc.{Exc}
 use Rattle.thr_syntax.specs.declared.tree.Script.{Script}
 use Rattle.thr_remainder.specs.Remainders.{Item, locals_or, locals_in, with_local, caught_or, caught_in}
@@ -13,10 +13,7 @@ use Rattle.thr_stack.specs.FrameLists.{caught_among}
 use Rattle.thr_remainder.specs.Expressions.{SharedValues, sight_of}
 use Rattle.thr_stack.specs.declared.context.Context.{Context}
 use Rattle.thr_stack.specs.Sights.{listed, seen}
-use Rattle.thr_stack.specs.Standing.{role_of, below, items_of, remainder_of, setting_of, IsBottom, AreFrames, IsGood, stored_list, kept_by}
-
-pub cons_not_nil : (f : Frame) (fs : List Frame) → f ∷ fs ≡ [] → ⊥
-cons_not_nil f fs e = let n : suc (length fs) ≡ 0 = ap length e in absurd (omega (arith, n))
+use Rattle.thr_stack.specs.Standing.{role_of, below, items_of, remainder_of, setting_of, AreFrames, IsGood, stored_list, kept_by}
 
 pub take_set : (n p : ℕ) (xs : List ℤ) (x : ℤ) → take n (slice_set xs p x) ≡ slice_set (take n xs) p x
 take_set zero p xs x = refl
@@ -59,22 +56,17 @@ module _ (s : Script) where
   kept_is line locals (f ∷ fs) n v = refl
 
   -- The innermost call has the locals of the context.
-  locals_by : (k : Kind) (line : ℕ) (locals : List ℤ) (fs : List Frame) → IsBottom k fs → (fs ≢ [] → locals_in (items_of s line locals fs) ≡ locals) → locals_or (role_of s locals k) (locals_in (items_of s line (below locals k) fs)) ≡ locals
-  locals_by (kind.Call place saved) line locals fs b h = refl
-  locals_by (kind.Try scope first) line locals [] b h = absurd b
-  locals_by (kind.Try scope first) line locals (f ∷ fs) b h = h (λ e. cons_not_nil f fs e)
-  locals_by (kind.Catch scope caught) line locals [] b h = absurd b
-  locals_by (kind.Catch scope caught) line locals (f ∷ fs) b h = h (λ e. cons_not_nil f fs e)
-  locals_by (kind.Finally scope pending) line locals [] b h = absurd b
-  locals_by (kind.Finally scope pending) line locals (f ∷ fs) b h = h (λ e. cons_not_nil f fs e)
-  locals_by (kind.Once scope block routine) line locals [] b h = absurd b
-  locals_by (kind.Once scope block routine) line locals (f ∷ fs) b h = h (λ e. cons_not_nil f fs e)
-  locals_by (kind.Barrier scope key routine) line locals [] b h = absurd b
-  locals_by (kind.Barrier scope key routine) line locals (f ∷ fs) b h = h (λ e. cons_not_nil f fs e)
+  locals_by : (k : Kind) (locals : List ℤ) (outer : List Item) → locals_in outer ≡ below locals k → locals_or (role_of s locals k) (locals_in outer) ≡ locals
+  locals_by (kind.Call place saved) locals outer h = refl
+  locals_by (kind.Try scope first) locals outer h = h
+  locals_by (kind.Catch scope caught) locals outer h = h
+  locals_by (kind.Finally scope pending) locals outer h = h
+  locals_by (kind.Once scope block routine) locals outer h = h
+  locals_by (kind.Barrier scope key routine) locals outer h = h
 
-  pub locals_are : (line : ℕ) (locals : List ℤ) (fs : List Frame) → AreFrames s line fs → fs ≢ [] → locals_in (items_of s line locals fs) ≡ locals
-  locals_are line locals [] h some = absurd (some refl)
-  locals_are line locals (f ∷ fs) h some = locals_by f.kind f.back locals fs h.2 (λ more. locals_are f.back locals fs h.3 more)
+  pub locals_are : (line : ℕ) (locals : List ℤ) (fs : List Frame) → AreFrames s line locals fs → locals_in (items_of s line locals fs) ≡ locals
+  locals_are line locals [] h = sym h
+  locals_are line locals (f ∷ fs) h = locals_by f.kind locals (items_of s f.back (below locals f.kind) fs) (locals_are f.back (below locals f.kind) fs h.2)
 
   caught_by : (k : Kind) (locals : List ℤ) (x : Exc) → caught_or (role_of s locals k) x ≡ lists.caught_or k x
   caught_by (kind.Call place saved) locals x = refl
@@ -94,6 +86,6 @@ module _ (s : Script) where
 
 -- ---- what an expression sees
 
-pub sight_is : (s : Script) (k : Context) (shared : SharedValues) → IsGood s k → k.frames.items ≢ [] → seen s k shared ≡ sight_of (setting_of s k) shared (remainder_of s k)
-sight_is s k shared good some =
-    λ i. record { script = s; me = k.me; locals = sym (locals_are s k.line (listed k.locals) k.frames.items good some) i; caught = sym (caught_is s k.line (listed k.locals) k.frames.items) i; err = k.err; shared = shared }
+pub sight_is : (s : Script) (k : Context) (shared : SharedValues) → IsGood s k → seen s k shared ≡ sight_of (setting_of s k) shared (remainder_of s k)
+sight_is s k shared good =
+    λ i. record { script = s; me = k.me; locals = sym (locals_are s k.line (listed k.locals) k.frames.items good) i; caught = sym (caught_is s k.line (listed k.locals) k.frames.items) i; err = k.err; shared = shared }

@@ -1,5 +1,5 @@
 -- The lines where steps stand.
-use Rattle.std.proofs.Common.{◌≡◌, ◌≢◌, ℕ, ℤ, List, [], ◌∷◌, Bool, true, false, Some, refl, ap, sym, ◌∙◌, subst}
+use Rattle.std.proofs.Common.{◌≡◌, ◌≢◌, ℕ, ℤ, List, [], ◌∷◌, Bool, true, false, Some, refl, ap, sym, ◌∙◌}
 use Rattle.std.proofs.lemmas.Bool.{false≢true}
 use Rattle.thr_syntax.specs.declared.form.Form.{Form}
 use Rattle.thr_syntax.specs.declared.form.Form.TheVariants as form
@@ -133,7 +133,7 @@ goes_to s k l good h =
     record {
       same = refl;
       to = to;
-      good = good_at s k.line l k.frames.items h.line good;
+      good = good_at s k.line l (listed k.locals) k.frames.items h.line good;
       line = λ some. record { line = h.line; left = refl; place = h.place; next = ap line_of_next to ∙ h.next };
     }
 

@@ -1,5 +1,5 @@
 -- The statement at the innermost place, and what its step is.
-use Rattle.std.proofs.Common.{◌≡◌, ◌≢◌, ℕ, ◌+◌, ◌-◌, ◌<◌, ◌≤◌, ℤ, List, [], ◌∷◌, ◌++◌, length, Option, Some, None, Bool, true, false, nat_le, refl, ap, sym, ◌∙◌, subst, arith}
+use Rattle.std.proofs.Common.{◌≡◌, ◌≢◌, ℕ, ◌-◌, ◌<◌, ℤ, List, [], ◌∷◌, length, slice_set, Option, Some, None, Bool, true, false, nat_le, refl, ap, sym, ◌∙◌, subst, arith}
 use Rattle.std.proofs.lemmas.Bool.Decides.{nat_tests}
 use Rattle.thr_values.specs.declared.number.Line.{Line}
 use Rattle.thr_values.specs.declared.history.What.{What}
@@ -7,19 +7,18 @@ use Rattle.thr_syntax.specs.declared.tree.Stmt.{Stmt}
 use Rattle.thr_syntax.specs.declared.tree.Script.{Script}
 use Rattle.thr_remainder.specs.Places.{Left, stmt_then, nothing}
 use Rattle.thr_remainder.specs.Acts.{Act, act_of}
-use Rattle.thr_remainder.specs.Remainders.{Item, Move, Spot, Place, At, AtEnd, place_in, place_inside, has_room}
+use Rattle.thr_remainder.specs.Remainders.{Move, Spot, Place, At, place_in, place_inside, has_room}
 use Rattle.thr_remainder.specs.Expressions.{SharedValues}
-use Rattle.thr_remainder.specs.Starts.{at, line_in}
+use Rattle.thr_remainder.specs.Starts.{at}
 use Rattle.thr_remainder.specs.Steps.{step_at, made, ended, after, valued, write_at, write_by}
 use Rattle.thr_lines.specs.Layout.{line_at}
 use Rattle.thr_lines.specs.AtLines.{ActsAt}
-use Rattle.thr_stack.specs.declared.frame.Locals.{Locals}
 use Rattle.thr_stack.specs.declared.frame.Kind.{Kind}
 use Rattle.thr_stack.specs.declared.frame.Kind.TheVariants as kind
 use Rattle.thr_stack.specs.declared.frame.Frame.{Frame}
 use Rattle.thr_stack.specs.declared.context.Context.{Context}
 use Rattle.thr_stack.specs.Sights.{listed}
-use Rattle.thr_stack.specs.Standing.{role_of, below, items_of, remainder_of, setting_of, IsLine, IsCall, IsBottom, AreFrames, IsGood, Stands, Makes, Steps}
+use Rattle.thr_stack.specs.Standing.{role_of, below, items_of, remainder_of, setting_of, IsLine, AreFrames, IsGood, Makes, Steps, stored_list}
 use Rattle.thr_stack.specs.Statements.{valued_at, after_at}
 use Rattle.thr_stack.proofs.LocalLaws.{length_items}
 
@@ -34,29 +33,38 @@ top k some = by k.frames.items refl
     by (f ∷ fs) e = (f, fs, e)
 
 -- The frames are good at another line too.
-pub good_at : (s : Script) (l m : ℕ) (items : List Frame) → IsLine s m → AreFrames s l items → AreFrames s m items
-good_at s l m [] i h = tt
-good_at s l m (f ∷ fs) i h = (i, h.1, h.2, h.3)
+pub good_at : (s : Script) (l m : ℕ) (locals : List ℤ) (items : List Frame) → IsLine s m → AreFrames s l locals items → AreFrames s m locals items
+good_at s l m locals [] i h = h
+good_at s l m locals (f ∷ fs) i h = (i, h.1, h.2)
 
 pub line_here : (s : Script) (k : Context) → IsGood s k → k.frames.items ≢ [] → IsLine s k.line
 line_here s k good some = by k.frames.items refl good
   where
-    by : (items : List Frame) → k.frames.items ≡ items → AreFrames s k.line items → IsLine s k.line
+    by : (items : List Frame) → k.frames.items ≡ items → AreFrames s k.line (listed k.locals) items → IsLine s k.line
     by [] e h = absurd (some e)
     by (f ∷ fs) e h = h.0
 
-pub bottom_call : (place : Option ℕ) (saved : Locals) (items : List Frame) → IsBottom (kind.Call place saved) items
-bottom_call place saved [] = tt
-bottom_call place saved (f ∷ fs) = tt
+-- The frames are good with another value of a local too.
+below_set : (s : Script) (p : ℕ) (n : ℤ) (l : ℕ) (locals : List ℤ) (x : Kind) (items : List Frame) → (AreFrames s l locals items → AreFrames s l (slice_set locals p n) items) → AreFrames s l (below locals x) items →
+    AreFrames s l (below (slice_set locals p n) x) items
+below_set s p n l locals (kind.Call place saved) items keeps h = h
+below_set s p n l locals (kind.Try scope first) items keeps h = keeps h
+below_set s p n l locals (kind.Catch scope caught) items keeps h = keeps h
+below_set s p n l locals (kind.Finally scope pending) items keeps h = keeps h
+below_set s p n l locals (kind.Once scope block routine) items keeps h = keeps h
+below_set s p n l locals (kind.Barrier scope key routine) items keeps h = keeps h
 
--- What stands above the outermost frame may change.
-pub bottom_at : (x y : Kind) (items : List Frame) → IsBottom x items → (IsCall x → IsCall y) → IsBottom y items
-bottom_at x y [] b h = h b
-bottom_at x y (f ∷ fs) b h = tt
+pub good_set : (s : Script) (p : ℕ) (n : ℤ) (l : ℕ) (locals : List ℤ) (items : List Frame) → AreFrames s l locals items → AreFrames s l (slice_set locals p n) items
+good_set s p n l locals [] h = ap (λ (xs : List ℤ). slice_set xs p n) h
+good_set s p n l locals (f ∷ fs) h = (h.0, h.1, below_set s p n f.back locals f.kind fs (good_set s p n f.back locals fs) h.2)
 
-pub bottom_more : (x : Kind) (items : List Frame) → items ≢ [] → IsBottom x items
-bottom_more x [] h = absurd (h refl)
-bottom_more x (f ∷ fs) h = tt
+pub good_stored : (s : Script) (place : Option ℕ) (n : ℤ) (l : ℕ) (locals : List ℤ) (items : List Frame) → AreFrames s l locals items → AreFrames s l (stored_list place n locals) items
+good_stored s None n l locals items h = h
+good_stored s (Some p) n l locals items h = good_set s p n l locals items h
+
+-- The frames are good with the same locals.
+pub good_with : (s : Script) (l : ℕ) (old new : List ℤ) (items : List Frame) → new ≡ old → AreFrames s l old items → AreFrames s l new items
+good_with s l old new items same h = subst (λ (xs : List ℤ). AreFrames s l xs items) (sym same) h
 
 -- ---- tests
 

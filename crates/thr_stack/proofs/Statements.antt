@@ -1,5 +1,5 @@
 -- Unwindings that set out, and statements without an expression.
-use Rattle.std.proofs.Common.{◌≡◌, ◌≢◌, ℕ, ◌+◌, ◌<◌, List, [], ◌∷◌, ◌++◌, length, Some, None, Bool, true, false, if◌then◌else◌, refl, ap, sym, ◌∙◌, subst, arith, append-nil}
+use Rattle.std.proofs.Common.{◌≡◌, ℕ, ◌+◌, ◌<◌, List, [], ◌∷◌, ◌++◌, length, Some, Bool, true, false, if◌then◌else◌, refl, ap, sym, ◌∙◌, subst, arith, append-nil}
 use Rattle.thr_values.specs.declared.number.NameId.{NameId}
 use Rattle.thr_values.specs.declared.exception.Exc.{Exc}
 use Rattle.thr_values.specs.declared.history.What.{What}
@@ -11,7 +11,7 @@ use Rattle.thr_remainder.specs.declared.unwinding.Cause.{Cause}
 use Rattle.thr_remainder.specs.Acts.{Act, Tries, Raises, RaisesAgain, Asks}
 use Rattle.thr_remainder.specs.Declarations.{exception_value}
 use Rattle.thr_remainder.specs.Remainders.{Item, Trying, Move}
-use Rattle.thr_remainder.specs.Starts.{at, still, raised, raised_again, tries}
+use Rattle.thr_remainder.specs.Starts.{at, raised, raised_again, tries}
 use Rattle.thr_lines.specs.declared.row.Row.{Row}
 use Rattle.thr_lines.specs.Layout.{line_at, last_line}
 use Rattle.thr_lines.specs.AtLines.{StatementAt, TryAt}
@@ -20,9 +20,9 @@ use Rattle.thr_stack.specs.declared.frame.Frame.{Frame}
 use Rattle.thr_stack.specs.declared.context.Context.{Context}
 use Rattle.thr_stack.specs.FrameLists.{FramesView, caught_among}
 use Rattle.thr_stack.specs.Sights.{listed}
-use Rattle.thr_stack.specs.Standing.{remainder_of, setting_of, items_of, IsGood, Stands, Makes, StepsAnyhow, set_out}
+use Rattle.thr_stack.specs.Standing.{remainder_of, items_of, IsGood, Stands, Makes, StepsAnyhow, set_out}
 use Rattle.thr_stack.proofs.LocalLaws.{caught_is}
-use Rattle.thr_stack.proofs.Sites.{Site, site, spot, step_is, steps_by, good_at, bottom_more, some_line, has_room_is, no_room_is}
+use Rattle.thr_stack.proofs.Sites.{site, spot, step_is, steps_by, good_at, some_line, has_room_is, no_room_is}
 
 -- ---- unwindings
 
@@ -89,8 +89,7 @@ module _ (s : Script) (k : Context) (h : Stands s k) (before : List What) where
           good = (
             (omega arith, omega (arith, a.below, a.above, a.inside)),
             ((omega (arith, a.below), omega (arith, a.above, a.inside)), a.way),
-            bottom_more (kind.Try (k.scopes + 1) a.next) k.frames.items h.some,
-            good_at s k.line a.after k.frames.items (omega (arith, a.above), a.inside) h.good,
+            good_at s k.line a.after (listed k.locals) k.frames.items (omega (arith, a.above), a.inside) h.good,
           );
         })
 

@@ -29,7 +29,7 @@ use Rattle.thr_stack.specs.FrameLists.{FramesView}
 use Rattle.thr_stack.specs.Sights.{listed}
 use Rattle.thr_stack.specs.Standing.{IsLine, IsKind, AreFrames, IsGood, role_of, below, items_of, remainder_of, setting_of, Ends}
 use Rattle.thr_stack.specs.Unwinds.{Catching, NoCatch, GoesOut, Meets, IsDropped, HasDropped}
-use Rattle.thr_stack.proofs.Sites.{some_line, bottom_at}
+use Rattle.thr_stack.proofs.Sites.{some_line, good_with}
 
 -- ---- the first clause that catches
 
@@ -140,7 +140,7 @@ meets_finally s scope first u h locals = ap (λ (w : Ways). at_try s scope w u u
 
 pub met_finally : (s : Script) (scope first : ℕ) (u : Unwinding) → Ends s first true → Meets s (kind.Try scope first) u (met.Begins (kind.Finally scope (Some u)) (first + 1) (what.Finally scope u.number))
 unfolding meets_finally
-met_finally s scope first u h = (meets_finally s scope first u h, h.0, tt, λ c. absurd c, λ locals. refl, λ locals. refl)
+met_finally s scope first u h = (meets_finally s scope first u h, h.0, tt, λ locals. refl, λ locals. refl)
 
 pub met_exit : (s : Script) (scope first : ℕ) (u : Unwinding) (v : ℤ) → Ends s first false → u.cause ≡ cause.Exit v → Meets s (kind.Try scope first) u met.Drops
 met_exit s scope first u v h is locals = ap (at_try s scope (line_at s first).ways u) is ∙ ap (λ (w : Ways). at_try s scope w u (cause.Exit v)) h.1
@@ -155,7 +155,6 @@ met_catch s scope first line u x is h = (
   (λ locals. ap (at_try s scope (line_at s first).ways u) is ∙ ap (λ (w : Ways). at_try s scope w u (cause.Raised x)) h.ways ∙ ap (caught_by scope u.number x) h.first_is),
   h.inside,
   tt,
-  λ c. absurd c,
   λ locals. refl,
   λ locals. refl,
 )
@@ -182,12 +181,12 @@ module _ (s : Script) (u : Unwinding) (k now : Context) (n : List What) (h : Has
       out_by (record { to = record r { items = []; under_way = None; value = v }; lines = what.Bottom u.number v ∷ [] }) (new k frames) more
       (ap (λ (fs : List Frame). outward_from s u (items_of s now.line (listed now.locals) fs) r) none ∙ ap (λ (z : ℤ). let m : Move = record { to = record r { items = []; under_way = None; value = z }; lines = what.Bottom u.number z ∷ [] } in m) (sym is))
       (ap (λ (fs : List Frame). record r { items = items_of s now.line (listed now.locals) fs; under_way = None; value = v }) empty) w (ap (λ z. record (setting_of s k) { size = z }) size)
-      (subst (λ (fs : List Frame). AreFrames s now.line fs) (sym empty) tt) in
+      (subst (AreFrames s now.line (listed now.locals)) (none ∙ sym empty) h.good) in
       subst (λ (x : Context). GoesOut s u k (new x frames) n more) (sym h.same) moved
 
   module _ (f : Frame) (frames : FramesView) (items : now.frames.items ≡ f ∷ frames.items) (size : frames.size ≡ now.frames.size) where
-    good_here : AreFrames s now.line (f ∷ frames.items)
-    good_here = subst (AreFrames s now.line) items h.good
+    good_here : AreFrames s now.line (listed now.locals) (f ∷ frames.items)
+    good_here = subst (AreFrames s now.line (listed now.locals)) items h.good
 
     outer : List Item
     outer = items_of s f.back (below (listed now.locals) f.kind) frames.items
@@ -215,8 +214,8 @@ module _ (s : Script) (u : Unwinding) (k now : Context) (n : List What) (h : Has
         let whole : FramesView = record frames { items = record { kind = x; back = f.back } ∷ frames.items } in
         let moved : GoesOut s u k (new k whole) n more =
         out_by (met_by (Begins (role_of s (listed now.locals) x) (line_at s line).left w)) (new k whole) more (met_here (Begins (role_of s (listed now.locals) x) (line_at s line).left w) (m.0 (listed now.locals)))
-        (λ i. record r { items = record { role = role_of s (listed now.locals) x; inside = (line_at s line).left } ∷ items_of s f.back ((m.5 (listed now.locals) ∙ sym (m.4 (listed now.locals))) i) frames.items; under_way = None })
-        e (ap (λ z. record (setting_of s k) { size = z }) whole_size) (m.1, m.2, bottom_at f.kind x frames.items good_here.2 m.3, good_here.3) in
+        (λ i. record r { items = record { role = role_of s (listed now.locals) x; inside = (line_at s line).left } ∷ items_of s f.back ((m.4 (listed now.locals) ∙ sym (m.3 (listed now.locals))) i) frames.items; under_way = None })
+        e (ap (λ z. record (setting_of s k) { size = z }) whole_size) (m.1, m.2, good_with s f.back (below (listed now.locals) f.kind) (below (listed now.locals) x) frames.items (m.4 (listed now.locals) ∙ sym (m.3 (listed now.locals))) good_here.2) in
         subst (λ (y : Context). GoesOut s u k (record y { frames = all; line = line; under_way = None }) n more) (sym h.same) (subst (λ (p : FramesView). GoesOut s u k (new k p) n more) (sym all_is) moved)
 
     pub out_loses : (w : What) (more : List What) → Meets s f.kind u (met.Loses w) → more ≡ n ++ w ∷ [] → GoesOut s u k (record now { frames = frames; line = f.back; under_way = None }) n more
@@ -227,7 +226,7 @@ module _ (s : Script) (u : Unwinding) (k now : Context) (n : List What) (h : Has
         let moved : GoesOut s u k (new k) n more =
         out_by (met_by (Loses w)) (new k) more (met_here (Loses w) (m.0 (listed now.locals)))
         (λ i. record r { items = items_of s f.back (sym (m.1 (listed now.locals)) i) frames.items; under_way = None })
-        e (ap (λ z. record (setting_of s k) { size = z }) whole_size) good_here.3 in
+        e (ap (λ z. record (setting_of s k) { size = z }) whole_size) (good_with s f.back (below (listed now.locals) f.kind) (listed now.locals) frames.items (sym (m.1 (listed now.locals))) good_here.2) in
         subst (λ (y : Context). GoesOut s u k (record y { frames = frames; line = f.back; under_way = None }) n more) (sym h.same) moved
 
     pub out_undoes : (all : FramesView) → Meets s f.kind u met.Undoes → all ≡ record frames { items = f ∷ frames.items } → GoesOut s u k (record now { frames = all }) n n
@@ -248,7 +247,7 @@ module _ (s : Script) (u : Unwinding) (k now : Context) (n : List What) (h : Has
         let moved : (ls : Locals) → listed ls ≡ below (listed now.locals) f.kind → HasDropped s u k (there k ls) = λ ls e. record {
           same = refl;
           size = whole_size;
-          good = good_here.3;
+          good = good_with s f.back (below (listed now.locals) f.kind) (listed ls) frames.items e good_here.2;
           goes = ap (λ (l : List ℤ). outward_from s u (items_of s f.back l frames.items) r) e ∙ sym (met_here Drops (m (listed now.locals))) ∙ h.goes;
         } in
         subst (HasDropped s u k) (sym (d.same ∙ ap (λ (y : Context). there y new.locals) h.same)) (moved new.locals d.locals)

@@ -73,24 +73,15 @@ abbrev pub IsKind : Script → Kind → Type 0
 IsKind s (kind.Try scope first) = IsLine s first × EndsTryBody (line_at s first).row.form
 IsKind s _ = Unit {0}
 
--- The frame is a call's.
-abbrev pub IsCall : Kind → Type 0
-IsCall (kind.Call place saved) = Unit {0}
-IsCall _ = ⊥
-
--- The outermost frame is a call's.
-abbrev pub IsBottom : Kind → List Frame → Type 0
-IsBottom k [] = IsCall k
-IsBottom k (f ∷ frames) = Unit {0}
-
--- Each line of the frames is one of the script, and the outermost frame is a call's.
-abbrev pub AreFrames : Script → ℕ → List Frame → Type 0
-AreFrames s line [] = Unit {0}
-AreFrames s line (f ∷ frames) = IsLine s line × IsKind s f.kind × IsBottom f.kind frames × AreFrames s f.back frames
+-- Each line of the frames is one of the script, and below the outermost frame there are no locals (docs/machine.md,
+-- "Routines").
+abbrev pub AreFrames : Script → ℕ → List ℤ → List Frame → Type 0
+AreFrames s line locals [] = locals ≡ []
+AreFrames s line locals (f ∷ frames) = IsLine s line × IsKind s f.kind × AreFrames s f.back (below locals f.kind) frames
 
 -- The context stands on the lines of this script.
 abbrev pub IsGood : Script → Context → Type 0
-IsGood s k = AreFrames s k.line k.frames.items
+IsGood s k = AreFrames s k.line (listed k.locals) k.frames.items
 
 -- The same, and a frame is left.
 pub record Stands (s : Script) (k : Context) : Type 0 where

@@ -14,7 +14,7 @@ use Rattle.thr_stack.specs.declared.frame.Met.{Met}
 use Rattle.thr_stack.specs.declared.frame.Met.TheVariants as met
 use Rattle.thr_stack.specs.declared.context.Context.{Context}
 use Rattle.thr_stack.specs.Sights.{listed}
-use Rattle.thr_stack.specs.Standing.{IsLine, IsKind, IsCall, AreFrames, Makes, role_of, below, items_of, setting_of, remainder_of}
+use Rattle.thr_stack.specs.Standing.{IsLine, IsKind, AreFrames, Makes, role_of, below, items_of, setting_of, remainder_of}
 
 -- The clause at this line is the first of the try that catches, or none does, or the try has no catch clauses.
 pub record Catching (s : Script) (x : Exc) (first line : ℕ) : Type 0 where
@@ -37,7 +37,7 @@ GoesOut s u old new before after = Makes s (outward (setting_of s old) u (remain
 abbrev pub Meets : Script → Kind → Unwinding → Met → Type 0
 Meets s k u met.Drops = (locals : List ℤ) → meeting s (role_of s locals k) u ≡ Drops
 Meets s k u (met.Begins new line w) =
-    ((locals : List ℤ) → meeting s (role_of s locals k) u ≡ Begins (role_of s locals new) (line_at s line).left w) × IsLine s line × IsKind s new × (IsCall k → IsCall new)
+    ((locals : List ℤ) → meeting s (role_of s locals k) u ≡ Begins (role_of s locals new) (line_at s line).left w) × IsLine s line × IsKind s new
     × ((locals : List ℤ) → below locals k ≡ locals) × ((locals : List ℤ) → below locals new ≡ locals)
 Meets s k u met.Undoes = (locals : List ℤ) → meeting s (role_of s locals k) u ≡ Undoes
 Meets s k u (met.Loses w) = ((locals : List ℤ) → meeting s (role_of s locals k) u ≡ Loses w) × ((locals : List ℤ) → below locals k ≡ locals)
@@ -51,5 +51,5 @@ pub record IsDropped (old new : Context) (f : Frame) : Type 0 where
 pub record HasDropped (s : Script) (u : Unwinding) (old now : Context) : Type 0 where
   pub same : now ≡ record old { frames = now.frames; line = now.line; locals = now.locals }
   pub size : now.frames.size ≡ old.frames.size
-  pub good : AreFrames s now.line now.frames.items
+  pub good : AreFrames s now.line (listed now.locals) now.frames.items
   pub goes : outward_from s u (items_of s now.line (listed now.locals) now.frames.items) (remainder_of s old) ≡ outward_from s u (remainder_of s old).items (remainder_of s old)
