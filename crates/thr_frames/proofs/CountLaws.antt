@@ -1,5 +1,5 @@
 -- How many lines a step writes, and how many scopes and unwindings it counts.
-use Rattle.std.proofs.Common.{◌≡◌, ℕ, ◌+◌, ◌≤◌, ℤ, Bool, true, false, List, [], ◌∷◌, length, length-append, Ok, Err, refl, ap, arith, if◌then◌else◌}
+use Rattle.std.proofs.Common.{◌≡◌, ℕ, ◌+◌, ◌≤◌, ℤ, Bool, true, false, List, [], ◌∷◌, ◌++◌, length, length-append, Ok, Err, refl, ap, arith, if◌then◌else◌}
 use Rattle.thr_values.specs.declared.exception.Exc.{Exc}
 use Rattle.thr_values.specs.declared.history.What.{What}
 use Rattle.thr_values.specs.Exceptions.{stackovf_e}
@@ -116,6 +116,10 @@ small_outward s u [] r = record { one = omega arith; scopes = omega arith; unwin
 small_outward s u (i ∷ outer) r = small_met (meeting s i.role u) i outer r (outward_from s u outer r) (small_outward s u outer r)
 
 -- ---- moves that were made
+
+-- One line was written.
+pub one_more : (before after : List What) (line : What) → after ≡ before ++ line ∷ [] → length after ≤ length before + 1
+one_more before after line e = omega (arith, ap length e, length-append before (line ∷ []))
 
 module _ (s : Script) (m : Move) (old new : Context) (before after : List What) (h : Makes s m old new before after) (c : IsSmall (remainder_of s old) m) where
   pub one_line : length after ≤ length before + 1

@@ -5,3 +5,4 @@ pub mod RunLaws
 pub mod StackLaws
 pub mod SharedLaws
 pub mod ReplyLaws
+pub mod ReplyCounts

@@ -1,5 +1,6 @@
 -- What stacks answer, and moves from the line of the step.
-use Rattle.std.proofs.Common.{◌≡◌, ◌≢◌, ◌+◌, ◌-◌, ℕ, List, [], ◌++◌, length, slice_get, true, Option, Some, None, refl, ap, sym, ◌∙◌, subst, arith}
+use Rattle.std.proofs.Common.{◌≡◌, ◌≢◌, ◌+◌, ◌-◌, ◌≤◌, nat_le, ℕ, List, [], ◌++◌, length, slice_get, true, Option, Some, None, refl, ap, sym, ◌∙◌, subst, arith}
+use Rattle.std.proofs.lemmas.Bool.Decides.{nat_tests}
 use Rattle.thr_values.specs.declared.history.What.{What}
 use Rattle.thr_syntax.specs.declared.dce.DceCall.{DceCall}
 use Rattle.thr_syntax.specs.declared.form.Form.{Form}
@@ -8,7 +9,7 @@ use Rattle.thr_syntax.specs.declared.tree.Script.{Script}
 use Rattle.thr_syntax.specs.Lines.{lines_of}
 use Rattle.thr_remainder.specs.Places.{Left, nothing}
 use Rattle.thr_remainder.specs.Acts.{Act, Asks}
-use Rattle.thr_remainder.specs.Remainders.{Setting, Remainder, Move, Place, Nowhere, AtEnd, At, place_in, place_inside, act_at, free}
+use Rattle.thr_remainder.specs.Remainders.{Setting, Remainder, Move, Place, Nowhere, AtEnd, At, place_in, place_inside, act_at, free, has_room}
 use Rattle.thr_lines.specs.declared.row.Row.{Row}
 use Rattle.thr_lines.specs.Layout.{line_at, last_line}
 use Rattle.thr_lines.specs.AtLines.{ActsAt, FormAt}
@@ -24,6 +25,15 @@ use Rattle.thr_frames.specs.Stacks.{asked_by, HasNoCall, IsNextCall}
 
 pub free_is : (s : Script) (k : Context) (n : ℕ) → n + length k.frames.items ≡ k.frames.size → n ≡ free (setting_of s k) (remainder_of s k)
 free_is s k n e = omega (arith, e, length_items s k.line (listed k.locals) k.frames.items)
+
+room_for_two : (size count : ℕ) → nat_le 2 (size - count) ≡ true → count + 2 ≤ size
+room_for_two size count h = grind (arith, nat_tests)
+
+-- Where two frames more fit, there is room for them.
+pub fits_two : (s : Script) (k : Context) → has_room (setting_of s k) (remainder_of s k) 2 ≡ true → length k.frames.items + 2 ≤ k.frames.size
+fits_two s k h =
+    let items = items_of s k.line (listed k.locals) k.frames.items in
+    omega (arith, room_for_two k.frames.size (length items) h, length_items s k.line (listed k.locals) k.frames.items)
 
 -- ---- moves from the line of the step
 

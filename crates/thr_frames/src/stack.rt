@@ -1,13 +1,15 @@
 //! What a thread has still to do.
 
-ghost use Rattle.std.specs.Prelude.{◌≡◌, ◌≢◌, ◌+◌, ◌≤◌, ◌<◌, [], length, IfOk, IfSome, MatchOption, false};
+ghost use Rattle.std.specs.Prelude.{◌≡◌, ◌≢◌, ◌+◌, ◌≤◌, ◌<◌, [], length, IfOk, IfSome, MatchOption, true, false};
 ghost use Rattle.std.specs.Option.{option_map};
+ghost use Rattle.thr_values.specs.declared.number.NameId.{NameId};
 ghost use Rattle.thr_syntax.specs.declared.tree.Script.{Script};
 ghost use Rattle.thr_remainder.specs.Declarations.{interface_of};
 ghost use Rattle.thr_remainder.specs.Expressions.{value_of};
-ghost use Rattle.thr_remainder.specs.Remainders.{free, place_in};
+ghost use Rattle.thr_remainder.specs.Next.{EndsOnce, UndoesOnce, next};
+ghost use Rattle.thr_remainder.specs.Remainders.{Move, free, has_room, place_in};
 ghost use Rattle.thr_remainder.specs.Replies.{replied, writes};
-ghost use Rattle.thr_remainder.specs.Starts.{fresh, line_of_next, raised, exited};
+ghost use Rattle.thr_remainder.specs.Starts.{fresh, line_of_next, raised, exited, delivered, begins_once, begins_destructor};
 ghost use Rattle.thr_remainder.specs.Steps.{shared_step, written};
 ghost use Rattle.thr_stack.specs.Sights.{shared_of};
 ghost use Rattle.thr_frames.specs.Replies.{stores_at, first_store, second_store, listed_writes};
@@ -21,12 +23,14 @@ use crate::stopped::Stopped;
 use std::alloc::Global;
 use std::marker::Model;
 use thr_lines::lines::Lines;
+use thr_stack::begin::{begin_destructor, begin_once};
 use thr_stack::context::Context;
 use thr_stack::frame::Locals;
 use thr_stack::frames::Frames;
 use thr_stack::notes::Notes;
+use thr_stack::once::{end_once, undo_once};
 use thr_stack::place::line_of_step;
-use thr_stack::raise::{exit, raise};
+use thr_stack::raise::{deliver, exit, raise};
 use thr_stack::sight::value;
 use thr_stack::start::start;
 use thr_syntax::dce::DceCall;
@@ -95,6 +99,7 @@ impl Stack {
         requires no_frame { HasNoFrame self.old }
         requires most { size ≤ most_frames self.old }
         ensures no_frame { HasNoFrame self.new }
+        ensures stack { (s : Script) → IsStack s self.old → IsStack s self.new }
         ensures setting { (s : Script) → setting_of s self.new ≡ record (setting_of s self.old) { size = size } }
         ensures most { most_frames self.new ≡ most_frames self.old }
     {
@@ -105,10 +110,22 @@ impl Stack {
     pub fn set_me(&mut self, t: Tid)
         requires no_frame { HasNoFrame self.old }
         ensures no_frame { HasNoFrame self.new }
+        ensures stack { (s : Script) → IsStack s self.old → IsStack s self.new }
         ensures setting { (s : Script) → setting_of s self.new ≡ record (setting_of s self.old) { me = t.0 } }
         ensures most { most_frames self.new ≡ most_frames self.old }
     {
         self.context.me = t.0;
+    }
+
+    /// All frames are dropped, so that the stack can be that of another thread.
+    pub fn clear(&mut self)
+        ensures no_frame { HasNoFrame self.new }
+        ensures stack { (s : Script) → IsStack s self.new }
+        ensures setting { (s : Script) → setting_of s self.new ≡ setting_of s self.old }
+        ensures most { most_frames self.new ≡ most_frames self.old }
+    {
+        self.context.frames.clear();
+        self.context.locals = Locals::first(0, 0);
     }
 
     /// The thread begins at this routine with this argument.
@@ -205,8 +222,65 @@ impl Stack {
         ensures first { result.first ≡ first_store (stores_at (place_in (remainder_of lines.now self.old).items) reply.now) }
         ensures second { result.second ≡ second_store (stores_at (place_in (remainder_of lines.now self.old).items) reply.now) }
         ensures writes { listed_writes result ≡ writes (remainder_of lines.now self.old) reply.now }
+        ensures lines { length notes.new ≤ length notes.old + 1 }
+        ensures as_many { length (remainder_of lines.now self.new).items ≡ length (remainder_of lines.now self.old).items }
     {
         give(lines, &mut self.context, reply, interface, notes)
+    }
+
+    /// The routine of a once block begins, with argument 0, where the thread stands.
+    pub fn push_once(&mut self, lines: &Lines, block: NameId, routine: NameId, notes: &mut Notes)
+        requires stack { IsStack lines.now self.old }
+        requires routine { IsRoutine lines.now routine }
+        requires room { has_room (setting_of lines.now self.old) (remainder_of lines.now self.old) 2 ≡ true }
+        requires numbers { CanNumber (remainder_of lines.now self.old) 1 }
+        requires notes { length notes.old < 136 }
+        ensures makes { Makes lines.now (begins_once (setting_of lines.now self.old) block routine (remainder_of lines.now self.old)) self.old self.new notes.old notes.new }
+        ensures lines { length notes.new ≤ length notes.old + 1 }
+    {
+        begin_once(lines, &mut self.context, notes, block, routine);
+    }
+
+    /// The destructor of a key begins, with the thread's value. It is called where no frame is left.
+    pub fn push_barrier(
+        &mut self,
+        lines: &Lines,
+        key: NameId,
+        routine: NameId,
+        value: i64,
+        notes: &mut Notes,
+    )
+        requires stack { IsStack lines.now self.old }
+        requires routine { IsRoutine lines.now routine }
+        requires room { has_room (setting_of lines.now self.old) (remainder_of lines.now self.old) 2 ≡ true }
+        requires numbers { CanNumber (remainder_of lines.now self.old) 1 }
+        requires notes { length notes.old < 136 }
+        ensures makes { Makes lines.now (begins_destructor (setting_of lines.now self.old) key routine value (remainder_of lines.now self.old)) self.old self.new notes.old notes.new }
+        ensures lines { length notes.new ≤ length notes.old + 1 }
+    {
+        begin_destructor(lines, &mut self.context, notes, key, routine, value);
+    }
+
+    /// The routine of a once block has ended, and the block is done. Answers the block.
+    pub fn once_done(&mut self, lines: &Lines, notes: &mut Notes) -> NameId
+        requires stack { IsStack lines.now self.old }
+        requires ends { (block : NameId) × (move : Move) × (next (setting_of lines.now self.old) (remainder_of lines.now self.old) ≡ EndsOnce block move) }
+        requires room { length notes.old < 136 }
+        ensures done { (move : Move) × (next (setting_of lines.now self.old) (remainder_of lines.now self.old) ≡ EndsOnce result move) × Makes lines.now move self.old self.new notes.old notes.new }
+        ensures lines { length notes.new ≤ length notes.old + 1 }
+    {
+        end_once(lines, &mut self.context, notes)
+    }
+
+    /// The unwinding under way undoes a once block. Answers the block.
+    pub fn once_undone(&mut self, lines: &Lines, notes: &mut Notes) -> NameId
+        requires stack { IsStack lines.now self.old }
+        requires undoes { (block : NameId) × (move : Move) × (next (setting_of lines.now self.old) (remainder_of lines.now self.old) ≡ UndoesOnce block move) }
+        requires room { length notes.old < 136 }
+        ensures undone { (move : Move) × (next (setting_of lines.now self.old) (remainder_of lines.now self.old) ≡ UndoesOnce result move) × Makes lines.now move self.old self.new notes.old notes.new }
+        ensures lines { length notes.new ≤ length notes.old + 1 }
+    {
+        undo_once(lines, &mut self.context, notes)
     }
 }
 
@@ -215,7 +289,8 @@ pub fn raise_at(lines: &Lines, stack: &mut Stack, x: Exc, notes: &mut Notes)
     requires stack { IsStack lines.now stack.old }
     requires numbers { CanNumber (remainder_of lines.now stack.old) 1 }
     requires room { length notes.old < 136 }
-    ensures { Makes lines.now (raised x (remainder_of lines.now stack.old)) stack.old stack.new notes.old notes.new }
+    ensures makes { Makes lines.now (raised x (remainder_of lines.now stack.old)) stack.old stack.new notes.old notes.new }
+    ensures lines { length notes.new ≤ length notes.old + 1 }
 {
     let _ = lines;
     raise(&mut stack.context, notes, x);
@@ -226,10 +301,22 @@ pub fn exit_at(lines: &Lines, stack: &mut Stack, value: i64, notes: &mut Notes)
     requires stack { IsStack lines.now stack.old }
     requires numbers { CanNumber (remainder_of lines.now stack.old) 1 }
     requires room { length notes.old < 136 }
-    ensures { Makes lines.now (exited value (remainder_of lines.now stack.old)) stack.old stack.new notes.old notes.new }
+    ensures makes { Makes lines.now (exited value (remainder_of lines.now stack.old)) stack.old stack.new notes.old notes.new }
+    ensures lines { length notes.new ≤ length notes.old + 1 }
 {
     let _ = lines;
     exit(&mut stack.context, notes, value);
+}
+
+/// A cancel is delivered where the thread stands, in place of its next step.
+pub fn deliver_at(lines: &Lines, stack: &mut Stack, notes: &mut Notes)
+    requires stack { IsStack lines.now stack.old }
+    requires numbers { CanNumber (remainder_of lines.now stack.old) 1 }
+    requires room { length notes.old < 136 }
+    ensures makes { Makes lines.now (delivered (remainder_of lines.now stack.old)) stack.old stack.new notes.old notes.new }
+    ensures lines { length notes.new ≤ length notes.old + 1 }
+{
+    deliver(lines, &mut stack.context, notes);
 }
 
 /// The quiet part of a turn: at most 64 quiet steps, and the unwindings between them. Answers what ends it.

@@ -7,3 +7,5 @@ pub mod Ends
 pub mod Unwinds
 pub mod PlaceLaws
 pub mod NextLaws
+pub mod Begins
+pub mod Onces

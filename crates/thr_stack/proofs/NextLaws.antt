@@ -1,5 +1,5 @@
 -- What is next where a context stands.
-use Rattle.std.proofs.Common.{◌≡◌, ◌≢◌, ℕ, ◌+◌, ℤ, List, [], ◌∷◌, Bool, true, false, if◌then◌else◌, Option, Some, None, is_some, refl, ap, sym, ◌∙◌, subst}
+use Rattle.std.proofs.Common.{◌≡◌, ◌≢◌, ℕ, ℤ, List, [], ◌∷◌, Bool, true, false, if◌then◌else◌, Option, Some, None, is_some, refl, ap, sym, ◌∙◌, subst}
 use Rattle.std.proofs.lemmas.Bool.{false≢true}
 use Rattle.thr_values.specs.declared.number.NameId.{NameId}
 use Rattle.thr_syntax.specs.declared.dce.DceCall.{DceCall}
@@ -10,13 +10,13 @@ use Rattle.thr_syntax.specs.declared.tree.Script.{Script}
 use Rattle.thr_remainder.specs.declared.unwinding.Unwinding.{Unwinding}
 use Rattle.thr_remainder.specs.Places.{Left, nothing}
 use Rattle.thr_remainder.specs.Acts.{Act, Asks}
-use Rattle.thr_remainder.specs.Remainders.{Item, Role, Setting, Remainder, Move, Place, At, place_in, place_inside}
+use Rattle.thr_remainder.specs.Remainders.{Item, Remainder, Move, Place, place_in, place_inside}
 use Rattle.thr_remainder.specs.Calls.{is_point, shape_of}
 use Rattle.thr_remainder.specs.Starts.{line_of_next}
 use Rattle.thr_remainder.specs.Expressions.{SharedValues}
 use Rattle.thr_remainder.specs.Steps.{quiet, write_at}
 use Rattle.thr_remainder.specs.Outward.{outward, undone}
-use Rattle.thr_remainder.specs.Next.{Next, GoesOutward, UndoesOnce, EndsThread, EndsOnce, Shares, IsAtPoint, StepsQuietly, next_by, next_at, next_end, next_shared, next_outward, outward_or_undone, next}
+use Rattle.thr_remainder.specs.Next.{GoesOutward, Shares, IsAtPoint, StepsQuietly, next_by, next_at, next_end, next_shared, next_outward, outward_or_undone, next}
 use Rattle.thr_lines.specs.declared.row.Row.{Row}
 use Rattle.thr_lines.specs.Layout.{line_at, last_line}
 use Rattle.thr_lines.specs.AtLines.{ActsAt, FormAt}
@@ -31,12 +31,12 @@ use Rattle.thr_stack.specs.Sights.{listed}
 use Rattle.thr_stack.specs.Standing.{role_of, below, items_of, remainder_of, setting_of, IsPlace}
 use Rattle.thr_stack.specs.Nexts.{IsNext}
 use Rattle.thr_stack.proofs.PlaceLaws.{closes_here, first_here, line_is}
-use Rattle.thr_stack.proofs.Sites.{Site, site, spot, place_is, write_is, top}
+use Rattle.thr_stack.proofs.Sites.{site, spot, place_is, write_is, top}
 
 -- ---- an unwinding under way
 
 module _ (s : Script) (k : Context) (u : Unwinding) (under : k.under_way ≡ Some u) where
-  by_unwinding : next (setting_of s k) (remainder_of s k) ≡ next_outward u (items_of s k.line (listed k.locals) k.frames.items) (remainder_of s k) (outward (setting_of s k) u (remainder_of s k))
+  pub by_unwinding : next (setting_of s k) (remainder_of s k) ≡ next_outward u (items_of s k.line (listed k.locals) k.frames.items) (remainder_of s k) (outward (setting_of s k) u (remainder_of s k))
   unfolding next
   by_unwinding = ap (λ (o : Option Unwinding). next_by (setting_of s k) o (remainder_of s k)) under
 
@@ -73,7 +73,7 @@ module _ (s : Script) (k : Context) (u : Unwinding) (under : k.under_way ≡ Som
 -- ---- no unwinding under way
 
 module _ (s : Script) (k : Context) (free : k.under_way ≡ None) where
-  free_next : next (setting_of s k) (remainder_of s k) ≡ next_at (place_in (remainder_of s k).items) (remainder_of s k) (quiet (setting_of s k) (remainder_of s k))
+  pub free_next : next (setting_of s k) (remainder_of s k) ≡ next_at (place_in (remainder_of s k).items) (remainder_of s k) (quiet (setting_of s k) (remainder_of s k))
   unfolding next
   free_next = ap (λ (u : Option Unwinding). next_by (setting_of s k) u (remainder_of s k)) free
 

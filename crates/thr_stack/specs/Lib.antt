@@ -6,3 +6,5 @@ pub mod Places
 pub mod Statements
 pub mod Unwinds
 pub mod Nexts
+pub mod Begins
+pub mod Onces

@@ -111,6 +111,13 @@ impl Frames {
         self.frames.pop()
     }
 
+    /// Takes all frames off.
+    pub fn clear(&mut self)
+        ensures { self.new ≡ record self.old { items = [] } }
+    {
+        self.frames.clear();
+    }
+
     /// What the innermost catch body of the innermost call has caught, or `cancel_e` where there is none.
     pub fn caught(&self) -> Exc
         ensures { result ≡ caught_among self.now.items }

@@ -1,6 +1,7 @@
 //! What a thread has still to do, as frames over the lines of its script, and the single steps of it.
 #![tactic(auto)]
 
+pub mod begin;
 pub mod compute;
 pub mod context;
 pub mod forms;
@@ -10,6 +11,7 @@ pub mod leave;
 pub mod locals;
 pub mod next;
 pub mod notes;
+pub mod once;
 pub mod outward;
 pub mod place;
 pub mod raise;
