@@ -6,3 +6,4 @@ pub mod StackLaws
 pub mod SharedLaws
 pub mod ReplyLaws
 pub mod ReplyCounts
+pub mod Crossing
