@@ -12,6 +12,7 @@ use Rattle.thr_remainder.specs.Remainders.{Setting, Remainder, has_room}
 use Rattle.thr_parts.specs.declared.row.RowId.{RowId}
 use Rattle.thr_parts.specs.declared.row.RowId.TheVariants as row
 use Rattle.thr_parts.specs.declared.row.Seat.{Seat}
+use Rattle.thr_parts.specs.declared.thread.Thread.{Thread}
 use Rattle.thr_parts.specs.declared.wait.Wait.{Wait}
 use Rattle.thr_parts.specs.Tables.{Table, get, has, at, IsCanonical}
 use Rattle.thr_parts.specs.Rows.{no_rows, thread, row_in}
@@ -27,7 +28,10 @@ use Rattle.thr_model.proofs.RowsKept.{history_canonical}
 use Rattle.thr_answers.specs.Statuses.{Absent, by_row, status}
 use Rattle.thr_answers.proofs.DebtsKept.{LeavesLeft}
 use Rattle.thr_answers.proofs.StatusTurns.{InOrder, HasRun, has_run, absent_parts}
-use Rattle.thr_answers.proofs.AnswerTurns.{agrees}
+use Rattle.thr_answers.proofs.AnswerTurns.{Agrees, agrees}
+use Rattle.thr_counts.proofs.Settings.{setting_stays}
+use Rattle.thr_waiting.proofs.Seated.{history_seated}
+use Rattle.thr_waiting.proofs.Living.{seat_recorded, seat_not_ended}
 use Rattle.thr_beginnings.proofs.OnceRows.{is_once_row, in_once, row_follows, dispatch_follows, wake_all_follows}
 use Rattle.thr_beginnings.proofs.RunningDebts.{owes_running, due_follows}
 use Rattle.thr_beginnings.proofs.CallsFollow.{FollowsIn}
@@ -180,41 +184,45 @@ module _ (s : Script) (st : State) where
 
 -- ---- histories
 
--- What histories of the script on n processors tell of threads: each event leaves the setting of a thread that has something left to
--- do; exactly the threads that stand in a row or run have something left to do; and those alone owe something.
-pub record AreSettled (s : Script) (n : ℕ) : Type 0 where
-  pub settings : (x : Execution) → History s n x → (e : Event) (made : Made) → made_by s n x.state e ≡ Some made → (t : ℕ) → has x.state.remainders t ≡ true → has made.state.remainders t ≡ true
-      → setting_of s made.state (thread t) ≡ setting_of s x.state (thread t)
-  pub remainders : (x : Execution) → History s n x → (t : ℕ) → has x.state.remainders t ≡ has x.state.rows.seats t
-  pub debts : (x : Execution) → History s n x → (t : ℕ) → has x.state.debts t ≡ true → has x.state.rows.seats t ≡ true
+opening_room : (s : Script) → Room s (opening s)
+opening_room s u = record {
+  rows = row_follows u (HasTwo (settings_in s (opening s)) (opening s).remainders u) no_rows row.Ready (thread 1) (rank_at first_threads (thread 1)) refl (λ e. absurd (false≢true (sym (ap in_once (get_none u)) ∙ e)));
+  owed = λ e. absurd (false≢true (sym (ap owes_running (get_none u)) ∙ e));
+}
 
-module _ (s : Script) (n : ℕ) (settled : AreSettled s n) where
-  opening_room : Room s (opening s)
-  opening_room u = record {
-    rows = row_follows u (HasTwo (settings_in s (opening s)) (opening s).remainders u) no_rows row.Ready (thread 1) (rank_at first_threads (thread 1)) refl (λ e. absurd (false≢true (sym (ap in_once (get_none u)) ∙ e)));
-    owed = λ e. absurd (false≢true (sym (ap owes_running (get_none u)) ∙ e));
-  }
+history_owers : {s : Script} {n : ℕ} {x : Execution} → History s n x → Owers s x.state
+history_owers {s} {n} {x} h t e = has_get x.state.rows.seats t ∙ (history_seated h).owers t (sym (has_get x.state.debts t) ∙ e)
 
-  again : (x : Execution) (h : History s n x) (e : Event) (made : Made) → made_by s n x.state e ≡ Some made → (u : ℕ) → History s n (after_event x e made)
-      → has made.state.rows.seats u ≡ true → Two s x.state made.state u → HasTwo (settings_in s made.state) made.state.remainders u
-  again x h e made m u then_ there two =
-      let same : setting_of s made.state (thread u) ≡ setting_of s x.state (thread u) =
-      settled.settings x h e made m u (settled.remainders x h u ∙ two.1) (settled.remainders (after_event x e made) then_ u ∙ there) in
-      ap (λ (g : Setting). has_room g (at made.state.remainders u nothing_left) 2) same ∙ two.0
+record_there : (o : Option Thread) → is_some o ≡ true → (th : Thread) × (o ≡ Some th)
+record_there None e = absurd (false≢true e)
+record_there (Some th) e = (th, refl)
 
-  room_after : (x : Execution) (h : History s n x) (e : Event) (made : Made) → made_by s n x.state e ≡ Some made → History s n (after_event x e made) → Goes s x.state made.state → Room s made.state
-  room_after x h e made m then_ goes u =
-      let k : FollowsIn u (Two s x.state made.state u) made.state = goes u in record {
-        rows = λ i. again x h e made m u then_ (in_row s made.state u i) (k.rows i);
-        owed = λ i. again x h e made m u then_ (ower s made.state (settled.debts (after_event x e made) then_) u i) (k.owed i);
-      }
+-- The setting of a thread that has a seat before and after an event stays.
+setting_same : {s : Script} {n : ℕ} {x : Execution} (h : History s n x) (e : Event) (made : Made) → made_by s n x.state e ≡ Some made → History s n (after_event x e made) → (u : ℕ) → has x.state.rows.seats u ≡ true
+    → has made.state.rows.seats u ≡ true → setting_of s made.state (thread u) ≡ setting_of s x.state (thread u)
+setting_same {s} {n} {x} h e made m later u before after =
+    let th : (th : Thread) × (get x.state.threads.records u ≡ Some th) = record_there (get x.state.threads.records u) (sym (has_get x.state.threads.records u) ∙ seat_recorded h u before) in
+    setting_stays s n x h e made m u th.0 th.1 (seat_not_ended h u th.0 before th.1)
+    (has_get made.state.remainders u ∙ (history_seated later).left u ∙ sym (has_get made.state.rows.seats u) ∙ after)
 
-  history_room : {x : Execution} → History s n x → Room s x.state
-  history_room opened = opening_room
-  history_room (then_event {x} h open_ e made m) =
-      let a = agrees h in
-      room_after x h e made m (then_event h open_ e made m) (made_goes s x.state n e made (history_canonical h) a.order (settled.debts x h) (history_room h) m)
+again : {s : Script} {n : ℕ} {x : Execution} (h : History s n x) (e : Event) (made : Made) → made_by s n x.state e ≡ Some made → History s n (after_event x e made) → (u : ℕ) → has made.state.rows.seats u ≡ true
+    → Two s x.state made.state u → HasTwo (settings_in s made.state) made.state.remainders u
+again h e made m later u there two =
+    ap (λ (g : Setting). has_room g (at made.state.remainders u nothing_left) 2) (setting_same h e made m later u two.1 there) ∙ two.0
 
-  -- A thread that owes the running of a once block has two free frames.
-  pub runners_have_room : (x : Execution) → History s n x → (t : Tid) → debt_of x.state t ≡ Some Running → has_room (setting_of s x.state t) (remainder_of x.state t) 2 ≡ true
-  runners_have_room x h t e = let k : FollowsIn t.0 (HasTwo (settings_in s x.state) x.state.remainders t.0) x.state = history_room h t.0 in k.owed (ap owes_running e)
+room_after : {s : Script} {n : ℕ} {x : Execution} (h : History s n x) (e : Event) (made : Made) → made_by s n x.state e ≡ Some made → History s n (after_event x e made) → Goes s x.state made.state → Room s made.state
+room_after {s} {n} {x} h e made m later goes u =
+    let k : FollowsIn u (Two s x.state made.state u) made.state = goes u in record {
+      rows = λ i. again h e made m later u (in_row s made.state u i) (k.rows i);
+      owed = λ i. again h e made m later u (ower s made.state (history_owers later) u i) (k.owed i);
+    }
+
+history_room : {s : Script} {n : ℕ} {x : Execution} → History s n x → Room s x.state
+history_room {s} opened = opening_room s
+history_room {s} {n} (then_event {x} h open_ e made m) =
+    let a : Agrees s x.state x.entries = agrees h in
+    room_after h e made m (then_event h open_ e made m) (made_goes s x.state n e made (history_canonical h) a.order (history_owers h) (history_room h) m)
+
+-- A thread that owes the running of a once block has two free frames.
+pub runners_have_room : (s : Script) (n : ℕ) (x : Execution) → History s n x → (t : Tid) → debt_of x.state t ≡ Some Running → has_room (setting_of s x.state t) (remainder_of x.state t) 2 ≡ true
+runners_have_room s n x h t e = let k : FollowsIn t.0 (HasTwo (settings_in s x.state) x.state.remainders t.0) x.state = history_room h t.0 in k.owed (ap owes_running e)
