@@ -1,2 +1,3 @@
 pub mod KeyLaws
 pub mod RemainderLaws
+pub mod Crossing
