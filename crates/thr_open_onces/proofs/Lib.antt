@@ -1,0 +1,3 @@
+pub mod BlocksKept
+pub mod RunsFit
+pub mod BlockNames
