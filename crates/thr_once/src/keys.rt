@@ -1,5 +1,5 @@
 //! Keys that are made, with their destructors and values.
-ghost use Rattle.std.specs.Prelude.{◌≡◌, ◌+◌, ◌<◌, ◌≤◌, true, false, pos, Some, None, IfOk, IfSome, OnOk, OnErr};
+ghost use Rattle.std.specs.Prelude.{◌≡◌, ◌+◌, ◌<◌, ◌≤◌, ◌↔◌, true, false, pos, Some, None, IfOk, IfSome, OnOk, OnErr, IsTrue};
 ghost use Rattle.std.specs.Option.{option_map};
 ghost use Rattle.thr_parts.specs.Tables.{names, none, get, has, put, put_if};
 ghost use Rattle.thr_parts.specs.Keys.{new_key, as_valued, value_in, called_with, first_call};
@@ -108,6 +108,13 @@ impl Keys {
             Ok(()) => Ok(()),
             Err(_) => Err(NoMemory),
         }
+    }
+
+    /// There is room for one value more.
+    pub fn has_room(&self) -> bool
+        ensures { IsTrue result ↔ (1 ≤ self.now.room) }
+    {
+        self.values.len() < self.values.capacity()
     }
 
     /// The key is made.

@@ -1,5 +1,5 @@
 //! The calls on once blocks and keys.
-ghost use Rattle.std.specs.Prelude.{◌≡◌, ◌+◌, ◌≤◌, IfOk, IfNone, OnOk, OnErr};
+ghost use Rattle.std.specs.Prelude.{◌≡◌, ◌+◌, ◌≤◌, ◌↔◌, IfOk, IfNone, OnOk, OnErr, IsTrue};
 ghost use Rattle.thr_values.specs.declared.reply.Reply.TheVariants.{Einval};
 ghost use Rattle.thr_parts.specs.Keys.{no_onces, keycreate, setspecific, getspecific, next_destructor};
 ghost use Rattle.thr_parts.specs.OnceBlocks.{enter, done, undone};
@@ -53,6 +53,13 @@ impl Onces {
         ensures kept { self.old.room ≤ self.new.room }
     {
         self.keys.make_room()
+    }
+
+    /// There is room for one value of a key more.
+    pub fn has_room(&self) -> bool
+        ensures { IsTrue result ↔ HasRoomForValue self.now }
+    {
+        self.keys.has_room()
     }
 
     // ---- once blocks

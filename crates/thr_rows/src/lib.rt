@@ -6,6 +6,7 @@ mod places;
 mod rows;
 mod seats;
 mod slices;
+mod stops;
 #[cfg(test)]
 mod tests;
 

@@ -21,7 +21,7 @@ const MOST: usize = 1024;
 /// The threads that stand in a row or run, and the next arrival number (docs/machine.md, "Rows").
 #[derive(Drop)]
 pub struct Rows {
-    seats: Numbered<Seat, MOST>,
+    pub(crate) seats: Numbered<Seat, MOST>,
     next_arrival: u64,
 }
 

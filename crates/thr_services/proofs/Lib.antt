@@ -14,3 +14,6 @@ pub mod ClockLaws
 pub mod BroadcastCalls
 pub mod TurnLaws
 pub mod OpeningLaws
+pub mod OwedLaws
+pub mod Crossing
+pub mod DispatchLaws

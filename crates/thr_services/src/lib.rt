@@ -3,6 +3,7 @@
 #![tactic(auto)]
 
 pub mod answer;
+mod asking;
 mod calls;
 mod clock;
 pub mod debt;
@@ -10,6 +11,7 @@ mod debts;
 mod freeing;
 mod gifts;
 pub mod groups;
+pub mod laws;
 mod on_conds;
 mod on_locks;
 mod on_onces;

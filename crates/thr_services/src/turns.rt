@@ -1,5 +1,5 @@
 //! What turns and processors do beside calls.
-ghost use Rattle.std.specs.Prelude.{◌≡◌, ◌+◌, ◌<◌, ◌^◌, ℤ};
+ghost use Rattle.std.specs.Prelude.{◌≡◌, ◌+◌, ◌<◌, ◌^◌, ℤ, IfNone};
 ghost use Rattle.std.specs.Option.{option_map};
 ghost use Rattle.thr_values.specs.declared.reply.Reply.TheVariants as reply;
 ghost use Rattle.thr_remainder.specs.Remainders.{Remainder};
@@ -38,13 +38,14 @@ fn is_fifo(policy: Policy) -> bool
 impl Services {
     // ---- what a thread owes
 
-    /// What the thread owes, which it owes no longer.
+    /// What the thread owes, which it owes no longer. The room for values of keys is as before.
     pub fn take_debt(&mut self, t: Tid) -> Option<Debt>
         ensures debt { (remainders : Table Remainder) (shared : Table ℤ)
             → debt_of (state_with self.old remainders shared) t ≡ option_map as_owed result }
         ensures state { (remainders : Table Remainder) (shared : Table ℤ)
             → (record (state_with self.old remainders shared) { debts = cut (state_with self.old remainders shared).debts t.0 })
             ≡ state_with self.new remainders shared }
+        ensures room { self.new.onces.room ≡ self.old.onces.room }
     {
         let debt = self.debts.get(t);
         self.debts.clear(t);
@@ -141,6 +142,7 @@ impl Services {
         ensures state { (remainders : Table Remainder) (shared : Table ℤ)
             → (record (state_with self.old remainders shared) { rows = (dispatch self.old.rows p).rows })
             ≡ state_with self.new remainders shared }
+        ensures none { IfNone result (self.new ≡ self.old) }
     {
         self.rows.dispatch(p)
     }
