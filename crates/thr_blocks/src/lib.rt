@@ -8,5 +8,3 @@ pub mod laws;
 mod level;
 mod misfit;
 mod open_blocks;
-#[cfg(test)]
-mod tests;

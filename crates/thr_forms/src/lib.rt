@@ -5,5 +5,3 @@ pub mod form;
 pub mod laws;
 pub mod scan;
 pub mod slots;
-#[cfg(test)]
-mod tests;

@@ -2,8 +2,6 @@
 #![tactic(auto)]
 
 mod printing;
-#[cfg(test)]
-mod tests;
 mod words;
 
 pub use printing::print;

@@ -5,6 +5,4 @@ pub mod fault;
 pub mod laws;
 pub mod lex;
 pub mod line;
-#[cfg(test)]
-mod tests;
 pub mod words;

@@ -3,6 +3,4 @@
 
 pub mod laws;
 pub mod limits;
-#[cfg(test)]
-mod tests;
 mod width;

@@ -3,7 +3,5 @@
 
 mod held;
 mod locks;
-#[cfg(test)]
-mod tests;
 
 pub use locks::Locks;

@@ -8,8 +8,6 @@ pub mod laws;
 mod places;
 mod sense;
 mod table;
-#[cfg(test)]
-mod tests;
 
 pub use context::pass_locals;
 pub use judge::judge_lines;

@@ -8,7 +8,5 @@ pub mod piece;
 mod pieces;
 pub mod resolve;
 mod scope;
-#[cfg(test)]
-mod tests;
 pub mod value;
 mod values;

@@ -7,8 +7,6 @@ mod rows;
 mod seats;
 mod slices;
 mod stops;
-#[cfg(test)]
-mod tests;
 
 pub use rows::Rows;
 pub use seats::{Entry, better};

@@ -4,8 +4,6 @@
 
 mod numbered;
 mod slots;
-#[cfg(test)]
-mod tests;
 
 pub use numbered::Numbered;
 pub use slots::Slots;

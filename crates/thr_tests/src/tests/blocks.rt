@@ -1,21 +1,13 @@
-//! Which faults lines have by their blocks.
+//! Which faults lines have by their blocks, and a tree of lines.
 
-ghost use Rattle.std.specs.Prelude.{◌≡◌, Some, None};
-ghost use Rattle.thr_text.specs.Lexing.{words_of};
-ghost use Rattle.thr_text.specs.Slots.{head_of_line, form_fault};
-
-use crate::build::build_items;
-use crate::check::{check_blocks, end_text, pass_shape};
-use crate::open_blocks::OpenBlocks;
-use std::alloc::Global;
+use std::alloc::{AllocError, Global};
 use std::test::Fail;
-use thr_lexer::fault::LexFault;
-use thr_lexer::lex::lex_line;
-use thr_lexer::line::Line;
+use thr_blocks::build::build_items;
+use thr_blocks::check::check_blocks;
+use thr_forms::scan::read_lines;
 use thr_syntax::expr::Expr;
 use thr_syntax::form::Form;
 use thr_text::fault::ParseFault;
-use thr_text::head::Head;
 use thr_values::name::Name;
 use thr_values::number::NameId;
 
@@ -26,35 +18,60 @@ fn place(fault: ParseFault) -> (u8, u32) {
     }
 }
 
-/// The first fault of lines of which each is a first word, with `this` where it means the caught exception. It goes as
-/// `check_blocks` does, over the two functions that this calls for a line and at the end, so that no line needs the rest of its
-/// words.
-fn first_fault(alloc: Global, text: &[u8]) -> Option<(u8, u32)> {
-    let mut blocks = OpenBlocks::new(alloc);
-    let mut number = 1u32;
-    for line in text.split(|b| *b == b'\n') {
-        let (word, this) = match line.strip_suffix(b" this") {
-            Some(word) => (word, true),
-            None => (line, false),
-        };
-        if line.is_empty() {
-            continue;
+/// A whole line for a first word, with `this` where it means the caught exception.
+fn whole(line: &'static [u8]) -> &'static [u8] {
+    let wholes: [(&'static [u8], &'static [u8]); 11] = [
+        (b"limit", b"limit 1"),
+        (b"routine", b"routine main a"),
+        (b"local", b"local b"),
+        (b"say", b"say 1"),
+        (b"say this", b"say exc_get_status this"),
+        (b"mutex", b"mutex m"),
+        (b"if", b"if 1"),
+        (b"while", b"while 1"),
+        (b"return", b"return 1"),
+        (b"return this", b"return exc_get_status this"),
+        (b"catch", b"catch cancel_e"),
+    ];
+    for (word, text) in wholes {
+        if word == line {
+            return text;
         }
-        // A misspelt word is no first word, and no fault has the number 0.
-        let Some(head) = Head::of(word) else {
-            return Some((0, number));
-        };
-        if let Err(fault) = pass_shape(&mut blocks, number, head.shape(), this) {
-            return Some(place(fault));
-        }
-        number = number.saturating_add(1);
     }
-    end_text(&blocks, number).err().map(place)
+    line
+}
+
+/// The first fault of lines below the first one, each of them said by its first word. The number is that among them.
+fn first_fault(alloc: Global, text: &'static [u8]) -> Result<Option<(u8, u32)>, AllocError> {
+    let mut whole_text = Vec::from_slice(alloc, b"dcethr 1\n")?;
+    for line in text.split(|b| *b == b'\n') {
+        whole_text.extend_from_slice(whole(line))?;
+        whole_text.push(b'\n')?;
+    }
+    Ok(first_of_text(alloc, whole_text.as_slice()))
+}
+
+/// The first fault by blocks of a text, as its number and its line below the first one; line 0 where a line has no form.
+fn first_of_text(alloc: Global, text: &[u8]) -> Option<(u8, u32)> {
+    if text.len() >= 4_294_967_295 {
+        return Some((0, 0));
+    }
+    let reading = match read_lines(alloc, text) {
+        Ok(reading) => reading,
+        Err(fault) => return Some(place(fault)),
+    };
+    match check_blocks(alloc, reading.lines.as_slice(), reading.end) {
+        Ok(()) => None,
+        Err(fault) => {
+            let (number, line) = place(fault);
+            Some((number, line.saturating_sub(1)))
+        }
+    }
 }
 
 #[test]
-fn first_faults_of_lines(rt: HostRuntime) {
-    let cases: [(&[u8], Option<(u8, u32)>); 75] = [
+fn first_faults_of_lines(rt: HostRuntime) -> Result<(), Fail> {
+    let cases: [(&'static [u8], Option<(u8, u32)>); 75] = [
         // lines that stand where they may
         (b"", None),
         (
@@ -163,54 +180,31 @@ fn first_faults_of_lines(rt: HostRuntime) {
         (b"routine\ntry\ncatch\nif\nreturn", Some((13, 5))),
     ];
     for (text, wanted) in cases {
-        assert_eq!(rt; first_fault(rt.alloc(), text), wanted, "{text:?}");
+        assert_eq!(rt; first_fault(rt.alloc(), text)?, wanted, "{text:?}");
     }
+    Ok(())
 }
 
 #[test]
 fn deep_blocks(rt: HostRuntime) -> Result<(), Fail> {
     let depth = 20_000;
-    let mut text = Vec::from_slice(rt.alloc(), b"routine\ntry\ncatch")?;
+    let mut text = Vec::from_slice(rt.alloc(), b"dcethr 1\nroutine main a\ntry\ncatch_all")?;
     for _ in 0..depth {
-        text.extend_from_slice(b"\nwhile")?;
+        text.extend_from_slice(b"\nwhile 1")?;
     }
     for _ in 0..depth {
-        text.extend_from_slice(b"\nreraise this")?;
+        text.extend_from_slice(b"\nreraise")?;
     }
     for _ in 0..depth {
         text.extend_from_slice(b"\nend")?;
     }
     text.extend_from_slice(b"\nendtry\nreturn\nend")?;
-    assert_eq!(rt; first_fault(rt.alloc(), text.as_slice()), None);
+    assert_eq!(rt; first_of_text(rt.alloc(), text.as_slice()), None);
     text.extend_from_slice(b"\nend")?;
-    assert_eq!(rt; first_fault(rt.alloc(), text.as_slice()), Some((9, 60_007)));
-    Ok(())
-}
-
-fn line(alloc: Global, number: u32, head: Head, text: &[u8]) -> Result<Line, LexFault>
-    requires head { head_of_line (words_of text.now) ≡ Some head }
-    requires form { form_fault (words_of text.now) ≡ None }
-{
-    Ok(Line::new(number, head, lex_line(alloc, text)?))
-}
-
-#[test]
-#[tactic(auto, unfolding(thr_text::specs::Computing::text_words))]
-fn lines_of_a_text(rt: HostRuntime) -> Result<(), Fail> {
-    let alloc = rt.alloc();
-    let mut lines = Vec::new(alloc);
-    lines.push(line(alloc, 2, Head::Routine, b"routine main a")?)?;
-    lines.push(line(alloc, 4, Head::Try, b"try")?)?;
-    lines.push(line(alloc, 5, Head::CatchAll, b"catch_all # last")?)?;
-    lines.push(line(alloc, 7, Head::Say, b"say exc_get_status this")?)?;
-    lines.push(line(alloc, 8, Head::Endtry, b"endtry")?)?;
-    lines.push(line(alloc, 9, Head::End, b"end")?)?;
-    let all = check_blocks(alloc, lines.as_slice(), 11);
-    assert_eq!(rt; all.err().map(place), None);
-    let open = check_blocks(alloc, &lines[..5], 11);
-    assert_eq!(rt; open.err().map(place), Some((8, 11)));
-    let uncaught = check_blocks(alloc, &lines[3..], 11);
-    assert_eq!(rt; uncaught.err().map(place), Some((9, 7)));
+    assert_eq!(rt;
+        first_of_text(rt.alloc(), text.as_slice()),
+        Some((9, 60_007))
+    );
     Ok(())
 }
 

@@ -1,9 +1,9 @@
 //! Scripts at each edge of the limits.
 
-use crate::limits::within_limits;
 use sqlite_items::{Boxed, Items};
 use std::alloc::Global;
 use std::test::Fail;
+use thr_limits::limits::within_limits;
 use thr_syntax::expr::{Expr, Op};
 use thr_syntax::tree::{Clause, Item, Routine, Script, Stmt};
 use thr_values::name::Name;

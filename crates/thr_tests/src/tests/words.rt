@@ -1,9 +1,9 @@
 //! What lines of given bytes are.
 
-use crate::fault::LexFault;
-use crate::lex::lex_line;
 use std::alloc::{AllocError, Global};
 use std::test::Fail;
+use thr_lexer::fault::LexFault;
+use thr_lexer::lex::lex_line;
 use thr_text::word::Word;
 
 /// Adds a word with a space: a number after `#`, a name as it is, a mark between quotes.

@@ -1,10 +1,10 @@
 //! Rows told by hand, and that memory is found, which no clause says.
 
-use crate::lines::Lines;
-use crate::start::Start;
 use sqlite_items::Items;
 use std::alloc::Global;
 use std::test::Fail;
+use thr_lines::lines::Lines;
+use thr_lines::start::Start;
 use thr_syntax::expr::{Expr, Var};
 use thr_syntax::tree::{Clause, Item, Routine, Script, Stmt};
 use thr_values::exception::Exc;

@@ -1,140 +1,12 @@
-//! What lines of given texts are judged to be.
+//! Which faults texts have by names and limits, and the table of the names of a text.
 
-ghost use Rattle.std.specs.Prelude.{◌≡◌, ◌||◌, None, true, map, IfOk};
-ghost use Rattle.thr_text.specs.Slots.{head_of_line, head_at, text_of, is_a_name, is_a_number, is_one_of, expression_words, can_stand, may_end, misplaced, slots_of, form_fault};
-ghost use Rattle.thr_text.specs.Tables.{rest_of};
-
-use crate::judge::judge_lines;
-use crate::places::{Open, rest, slots_behind};
 use std::alloc::{AllocError, Global};
 use std::test::Fail;
-use thr_lexer::lex::lex_line;
-use thr_lexer::line::Line;
-use thr_lexer::words::Words;
+use thr_forms::scan::read_lines;
+use thr_naming::judge_lines;
 use thr_text::fault::ParseFault;
-use thr_text::head::{Choice, Head, Slot};
-use thr_text::names::is_name;
 use thr_text::object::Object;
-use thr_text::operands::is_one_of;
-use thr_text::word::Word;
 use thr_values::name::Name;
-
-fn head_of_word(word: &Word) -> Option<Head>
-    ensures { result ≡ head_at (text_of word.now) }
-{
-    match word {
-        Word::Num(_) => None,
-        Word::Name(name) => Head::of(name.as_slice()),
-        Word::Mark(mark) => Head::of(mark.as_slice()),
-    }
-}
-
-fn head_of(words: &[Word]) -> Option<Head>
-    ensures { result ≡ head_of_line words.now }
-{
-    if words.is_empty() {
-        return None;
-    }
-    head_of_word(&words[0])
-}
-
-fn is_a_name(word: &Word) -> bool
-    ensures { result ≡ is_a_name word.now }
-{
-    match word {
-        Word::Name(name) => is_name(name.as_slice()),
-        _ => false,
-    }
-}
-
-fn is_a_number(word: &Word) -> bool
-    ensures { result ≡ is_a_number word.now }
-{
-    matches!(word, Word::Num(_))
-}
-
-/// The words of expressions that the tests use.
-fn is_operator(word: &Word) -> bool
-    ensures { result ≡ true → is_one_of expression_words word.now ≡ true }
-{
-    is_one_of(
-        &[
-            b"self",
-            b"err",
-            b"not",
-            b"exc_get_status",
-            b"exc_matches",
-            b"+",
-            b"-",
-            b"*",
-            b"/",
-            b"%",
-            b"==",
-            b"!=",
-            b"<",
-            b"<=",
-            b">",
-            b">=",
-            b"and",
-            b"or",
-        ],
-        word,
-    )
-}
-
-/// Whether a word can stand in a slot, as far as the tests use the fixed words of calls, which is not at all.
-fn can_stand(slot: Slot, word: &Word) -> bool
-    ensures { result ≡ true → can_stand slot word.now ≡ true }
-{
-    match slot {
-        Slot::Number => is_a_number(word),
-        Slot::Fixed(Choice::Interface) => is_one_of(&[b"exc", b"status"], word),
-        Slot::Fixed(_) => false,
-        Slot::ObjectOr(Object::Routine) => is_a_name(word) || is_one_of(&[b"none"], word),
-        Slot::ObjectOr(Object::Attr) => is_a_name(word) || is_one_of(&[b"default"], word),
-        Slot::Exception => is_a_name(word) || is_one_of(&[b"this"], word),
-        Slot::Expression => is_a_number(word) || is_a_name(word) || is_operator(word),
-        _ => is_a_name(word),
-    }
-}
-
-fn may_end(left: &mut Open) -> bool
-    ensures { result ≡ true → may_end left.old ≡ true }
-{
-    match left.pop() {
-        None => true,
-        Some(Slot::Receiver) => left.pop().is_none(),
-        Some(_) => false,
-    }
-}
-
-fn has_form(alloc: Global, head: Head, words: &[Word]) -> Result<bool, ParseFault>
-    ensures { IfOk result (λ b. b ≡ true → misplaced (slots_of head) words.now ≡ None) }
-{
-    let mut left = Open::new(alloc);
-    left.push(head.slots())?;
-    for word in words {
-        let Some(slot) = left.pop() else {
-            return Ok(false);
-        };
-        if !can_stand(slot, word) {
-            return Ok(false);
-        }
-        left.push(slots_behind(slot, word))?;
-    }
-    Ok(may_end(&mut left))
-}
-
-/// The line with this number and this text, if it has a form.
-fn line(alloc: Global, number: u32, words: Words) -> Result<Option<Line>, ParseFault> {
-    let Some(head) = head_of(words.as_slice()) else {
-        return Ok(None);
-    };
-    if !has_form(alloc, head, rest(words.as_slice()))? {
-        return Ok(None);
-    }
-    Ok(Some(Line::new(number, head, words)))
-}
 
 /// Lines between others: this text so often, with the number of the time, from 1 on, for each `@`.
 #[derive(Drop)]
@@ -163,41 +35,37 @@ fn add(alloc: Global, text: &mut Vec<u8>, each: &[u8], time: usize) -> Result<()
 }
 
 fn text_of(alloc: Global, case: &Case) -> Result<Vec<u8>, AllocError> {
-    let mut text = Vec::from_slice(alloc, case.before)?;
+    let mut text = Vec::from_slice(alloc, b"dcethr 1")?;
+    for _ in 1..case.first {
+        text.push(b'\n')?;
+    }
+    text.extend_from_slice(case.before)?;
     for time in 0..case.times {
         add(alloc, &mut text, case.each, time)?;
     }
     text.extend_from_slice(case.after)?;
+    for _ in 0..case.blank {
+        text.extend_from_slice(b"\n ")?;
+    }
     Ok(text)
 }
 
-/// The lines of a case, with the number of the line after the last; nothing if a line has words and no form.
-fn lines_of(alloc: Global, case: &Case) -> Result<Option<(Vec<Line>, u32)>, Fail> {
-    let text = text_of(alloc, case)?;
-    let mut lines = Vec::new(alloc);
-    let mut number = case.first;
-    for piece in text.as_slice().split(|b| *b == b'\n') {
-        let words = lex_line(alloc, piece)?;
-        if !words.is_empty() {
-            let Some(line) = line(alloc, number, words)? else {
-                return Ok(None);
-            };
-            lines.push(line)?;
-        }
-        number = number.saturating_add(1);
-    }
-    Ok(Some((lines, number.saturating_add(case.blank))))
-}
-
+/// The first fault by names and limits of a case, as its line and its number; line 0 where a line has no form.
 fn judged(alloc: Global, case: &Case) -> Result<(u32, u8), Fail> {
-    let Some((lines, end)) = lines_of(alloc, case)? else {
+    let text = text_of(alloc, case)?;
+    if text.len() >= 4_294_967_295 {
+        return Ok((0, 3));
+    }
+    let Ok(reading) = read_lines(alloc, text.as_slice()) else {
         return Ok((0, 2));
     };
-    Ok(match judge_lines(alloc, lines.as_slice(), end) {
-        Ok(_) => (0, 0),
-        Err(ParseFault::Refused(place)) => (place.line, place.number),
-        Err(ParseFault::NoMemory) => (0, 1),
-    })
+    Ok(
+        match judge_lines(alloc, reading.lines.as_slice(), reading.end) {
+            Ok(_) => (0, 0),
+            Err(ParseFault::Refused(place)) => (place.line, place.number),
+            Err(ParseFault::NoMemory) => (0, 1),
+        },
+    )
 }
 
 /// A case of these lines alone, the first of which is line 2.
@@ -356,10 +224,14 @@ fn faults_of_names_and_limits(rt: HostRuntime) -> Result<(), Fail> {
 fn names_of_a_script(rt: HostRuntime) -> Result<(), Fail> {
     let alloc = rt.alloc();
     let case = plain(b"cond c\nroutine main p\nlocal a\nend\nmutex m", (0, 0));
-    let Some((lines, end)) = lines_of(alloc, &case)? else {
+    let text = text_of(alloc, &case)?;
+    if text.len() >= 4_294_967_295 {
+        panic!(&rt; "a text too long");
+    }
+    let Ok(reading) = read_lines(alloc, text.as_slice()) else {
         panic!(&rt; "a line without a form");
     };
-    let table = judge_lines(alloc, lines.as_slice(), end)?;
+    let table = judge_lines(alloc, reading.lines.as_slice(), reading.end)?;
     let names = table.names(alloc)?;
     assert_eq!(rt; names.len(), 13);
     let wanted: [(&[u8], Option<(u16, Object)>); 8] = [

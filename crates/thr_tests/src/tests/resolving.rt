@@ -1,10 +1,10 @@
 //! What lines of a given text are resolved to.
 
-use crate::resolve::resolve_lines;
 use std::alloc::Global;
 use std::test::Fail;
 use thr_forms::scan::read_lines;
 use thr_naming::judge_lines;
+use thr_resolving::resolve::resolve_lines;
 use thr_syntax::dce::DceCall;
 use thr_syntax::expr::{ExcRef, Expr, Op, Var};
 use thr_syntax::form::Form;

@@ -1,8 +1,8 @@
 //! A course of two processors and a mutex's row, and that memory is found for the rows, which no clause says.
 
-use crate::rows::Rows;
 use std::test::Fail;
 use thr_parts::row::RowId;
+use thr_rows::Rows;
 use thr_values::number::{NameId, Tid};
 
 const MUTEX: RowId = RowId::Mutex(NameId(12));

@@ -1,8 +1,8 @@
 //! What texts are read as.
 
-use crate::scan::read_lines;
 use std::alloc::{AllocError, Global};
 use std::test::Fail;
+use thr_forms::scan::read_lines;
 use thr_text::fault::{ParseFault, Place};
 
 /// Second lines of texts, each after the number of its fault or 0.

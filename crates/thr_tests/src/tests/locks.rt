@@ -1,7 +1,7 @@
 //! A recursive mutex that is locked, waited for and handed over, and that memory is found for the locks, which no clause says.
 
-use crate::locks::Locks;
 use std::test::Fail;
+use thr_locks::Locks;
 use thr_parts::row::RowId;
 use thr_rows::Rows;
 use thr_values::number::{NameId, Tid};

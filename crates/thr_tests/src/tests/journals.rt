@@ -1,10 +1,10 @@
 //! A journal and its text.
 
-use crate::printing::print;
 use sqlite_items::Items;
 use std::alloc::{AllocError, Global};
 use std::test::Fail;
 use thr_grammar::parse;
+use thr_journal::print;
 use thr_syntax::journal::Journal;
 use thr_values::call::{Arg, CallWord};
 use thr_values::event::Stop;

@@ -1,9 +1,8 @@
 //! Both tables on their happy path at concrete types, and that memory is found for them, which no clause says.
 
-use crate::numbered::Numbered;
-use crate::slots::Slots;
 use std::alloc::Global;
 use std::test::Fail;
+use thr_tables::{Numbered, Slots};
 use thr_values::number::{NameId, Tid};
 
 const NAME: NameId = NameId(3);
