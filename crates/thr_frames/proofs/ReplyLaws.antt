@@ -1,5 +1,5 @@
 -- What a thread does with replies.
-use Rattle.std.proofs.Common.{◌≡◌, ℕ, ◌+◌, ℤ, List, [], ◌∷◌, slice_set, true, Option, None, refl, ap, sym, ◌∙◌, subst, arith, append-nil}
+use Rattle.std.proofs.Common.{◌≡◌, ℕ, ◌+◌, ℤ, List, [], ◌∷◌, true, Option, None, refl, ap, sym, ◌∙◌, subst, arith, append-nil}
 use Rattle.std.proofs.lemmas.Option.{none-some}
 use Rattle.thr_values.specs.declared.exception.Exc.{Exc}
 use Rattle.thr_values.specs.declared.history.What.{What}
@@ -17,46 +17,47 @@ use Rattle.thr_remainder.specs.Replies.{stored_in, shared_in, raised_by, raised_
 use Rattle.thr_remainder.specs.Starts.{still}
 use Rattle.thr_lines.specs.Layout.{line_at, last_line}
 use Rattle.thr_lines.specs.AtLines.{StatementAt}
-use Rattle.thr_stack.specs.declared.frame.Locals.{Locals}
 use Rattle.thr_stack.specs.declared.frame.Frame.{Frame}
 use Rattle.thr_stack.specs.declared.context.Context.{Context}
-use Rattle.thr_stack.specs.Sights.{listed}
+use Rattle.thr_stack.specs.FrameLists.{FramesView, set_in}
 use Rattle.thr_stack.specs.Standing.{AreFrames, IsGood, Stands, Makes, items_of, remainder_of, setting_of}
 use Rattle.thr_stack.proofs.LocalLaws.{with_local_is}
-use Rattle.thr_stack.proofs.Sites.{site, spot, place_is, good_at, good_set, good_with}
-use Rattle.thr_frames.specs.Replies.{stores_by, stores_at, locals_with, IsBehind}
+use Rattle.thr_stack.proofs.Sites.{site, spot, place_is, good_at, good_set}
+use Rattle.thr_frames.specs.Replies.{stores_by, stores_at, calls_with, IsBehind}
 use Rattle.thr_frames.specs.Stacks.{asked_by}
 use Rattle.thr_frames.proofs.StackLaws.{asked_at}
 
 -- ---- local variables
 
-stored_items : (s : Script) (xs : List (Var × ℤ)) (line : ℕ) (locals : List ℤ) (fs : List Frame) → stored_in xs (items_of s line locals fs) ≡ items_of s line (locals_with xs locals) fs
-stored_items s [] line locals fs = refl
-stored_items s ((Local p, n) ∷ xs) line locals fs = ap (stored_in xs) (with_local_is s p n line locals fs) ∙ stored_items s xs line (slice_set locals p n) fs
-stored_items s ((Shared name, n) ∷ xs) line locals fs = stored_items s xs line locals fs
+stored_items : (s : Script) (xs : List (Var × ℤ)) (line : ℕ) (calls : List (List ℤ)) (fs : List Frame) → stored_in xs (items_of s line calls fs) ≡ items_of s line (calls_with xs calls) fs
+stored_items s [] line calls fs = refl
+stored_items s ((Local p, n) ∷ xs) line calls fs = ap (stored_in xs) (with_local_is s p n line calls fs) ∙ stored_items s xs line (set_in calls p n) fs
+stored_items s ((Shared name, n) ∷ xs) line calls fs = stored_items s xs line calls fs
 
-good_locals : (s : Script) (xs : List (Var × ℤ)) (line : ℕ) (locals : List ℤ) (fs : List Frame) → AreFrames s line locals fs → AreFrames s line (locals_with xs locals) fs
-good_locals s [] line locals fs h = h
-good_locals s ((Local p, n) ∷ xs) line locals fs h = good_locals s xs line (slice_set locals p n) fs (good_set s p n line locals fs h)
-good_locals s ((Shared name, n) ∷ xs) line locals fs h = good_locals s xs line locals fs h
+good_calls : (s : Script) (xs : List (Var × ℤ)) (line : ℕ) (calls : List (List ℤ)) (fs : List Frame) → AreFrames s line calls fs → AreFrames s line (calls_with xs calls) fs
+good_calls s [] line calls fs h = h
+good_calls s ((Local p, n) ∷ xs) line calls fs h = good_calls s xs line (set_in calls p n) fs (good_set s p n line calls fs h)
+good_calls s ((Shared name, n) ∷ xs) line calls fs h = good_calls s xs line calls fs h
 
 -- The call is behind, where its values are in the locals.
-pub goes_past : (s : Script) (k : Context) (call : DceCall) (reply : Reply) (xs : List (Var × ℤ)) (locals : Locals) (err : ℤ) → Stands s k → StatementAt (line_at s) (last_line s) k.line (Asks call) true →
-    xs ≡ stores call reply → listed locals ≡ locals_with xs (listed k.locals) → err ≡ errno_of reply → IsBehind s call reply k (record k { line = k.line + 1; locals = locals; err = err })
-goes_past s k call reply xs locals err h a xs_are locals_are err_is =
+pub goes_past : (s : Script) (k : Context) (call : DceCall) (reply : Reply) (xs : List (Var × ℤ)) (frames : FramesView) (err : ℤ) → Stands s k → StatementAt (line_at s) (last_line s) k.line (Asks call) true →
+    xs ≡ stores call reply → frames ≡ record k.frames { calls = calls_with xs k.frames.calls } → err ≡ errno_of reply → IsBehind s call reply k (record k { line = k.line + 1; frames = frames; err = err })
+goes_past s k call reply xs frames err h a xs_are frames_are err_is =
     let t = site s k _ (Asks call) true h.some a.does in
     let r = remainder_of s k in
-    let same : listed locals ≡ locals_with (stores call reply) (listed k.locals) = locals_are ∙ ap (λ (ys : List (Var × ℤ)). locals_with ys (listed k.locals)) xs_are in
+    let there : FramesView = record k.frames { calls = calls_with (stores call reply) k.frames.calls } in
+    let same : frames ≡ there = frames_are ∙ ap (λ (ys : List (Var × ℤ)). let f : FramesView = record k.frames { calls = calls_with ys k.frames.calls } in f) xs_are in
+    let moved : IsBehind s call reply k (record k { line = k.line + 1; frames = there; err = err }) =
     record {
       spot = spot s k _ (Asks call) t;
       here = place_is s k _ (Asks call) t;
       acts = t.acts;
-      to = (λ i. record r { items = items_of s (k.line + 1) (same i) (t.items i); err = err_is i })
-          ∙ ap (λ (is : List Item). record r { items = is; err = errno_of reply }) (sym (stored_items s (stores call reply) (k.line + 1) (listed k.locals) (t.frame ∷ t.outer)));
+      to = (λ i. record r { items = items_of s (k.line + 1) (calls_with (stores call reply) k.frames.calls) (t.items i); err = err_is i })
+          ∙ ap (λ (is : List Item). record r { items = is; err = errno_of reply }) (sym (stored_items s (stores call reply) (k.line + 1) k.frames.calls (t.frame ∷ t.outer)));
       setting = refl;
-      good = good_at s k.line (k.line + 1) (listed locals) k.frames.items (omega arith, omega (arith, a.inside))
-          (good_with s k.line (locals_with (stores call reply) (listed k.locals)) (listed locals) k.frames.items same (good_locals s (stores call reply) k.line (listed k.locals) k.frames.items h.good));
-    }
+      good = good_at s k.line (k.line + 1) (calls_with (stores call reply) k.frames.calls) k.frames.items (omega arith, omega (arith, a.inside)) (good_calls s (stores call reply) k.line k.frames.calls k.frames.items h.good);
+    } in
+    subst (λ (f : FramesView). IsBehind s call reply k (record k { line = k.line + 1; frames = f; err = err })) (sym same) moved
 
 -- ---- the call
 

@@ -21,7 +21,7 @@ use Rattle.thr_stack.specs.declared.frame.Frame.{Frame}
 use Rattle.thr_stack.specs.declared.context.Context.{Context}
 use Rattle.thr_stack.specs.declared.next.Stood.TheVariants as stood
 use Rattle.thr_stack.specs.FrameLists.{AtOnce}
-use Rattle.thr_stack.specs.Sights.{listed, shared_of}
+use Rattle.thr_stack.specs.Sights.{shared_of}
 use Rattle.thr_stack.specs.Standing.{IsGood, Makes, Steps, items_of, remainder_of, setting_of}
 use Rattle.thr_stack.specs.Unwinds.{GoesOut}
 use Rattle.thr_stack.specs.Nexts.{IsNext}
@@ -246,7 +246,7 @@ module _ (s : Script) (mode : Mode) (old mid : Context) (before between : List W
   pass_undoes f = halted (UndoesOnce f.0 f.1) (runs.Undoes f.0 f.1) stopped.OnceUndone f.2 (λ more. refl) (f.0, f.1, f.2, refl)
 
   pub pass_ended : IsNext s mid stood.Ended → Passed s mode old mid before between (Some (stopped.Ended mid.value))
-  pass_ended f = halted EndsThread runs.Ends (stopped.Ended mid.value) f.0 (λ more. refl) (refl, refl, ap (λ (is : List Frame). items_of s mid.line (listed mid.locals) is) f.1)
+  pass_ended f = halted EndsThread runs.Ends (stopped.Ended mid.value) f.0 (λ more. refl) (refl, refl, ap (λ (is : List Frame). items_of s mid.line mid.frames.calls is) f.1)
 
   module _ (f : IsNext s mid stood.EndsOnce) where
     pub pass_once : is_deliverable mode false ≡ false → Passed s mode old mid before between (Some stopped.OnceDone)

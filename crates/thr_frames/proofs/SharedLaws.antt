@@ -21,7 +21,6 @@ use Rattle.thr_lines.proofs.ScriptLaws.{row_known, row_is, form_is}
 use Rattle.thr_stack.specs.declared.frame.Frame.{Frame}
 use Rattle.thr_stack.specs.declared.context.Context.{Context}
 use Rattle.thr_stack.specs.Forms.{expression_of, write_from}
-use Rattle.thr_stack.specs.Sights.{listed}
 use Rattle.thr_stack.specs.Places.{IsAtStep}
 use Rattle.thr_stack.specs.Standing.{IsGood, IsLine, IsPlace, Makes, Steps, items_of, remainder_of, setting_of}
 use Rattle.thr_stack.proofs.NextLaws.{no_write}
@@ -48,12 +47,12 @@ module _ (s : Script) (k : Context) (shared : SharedValues) (none : k.frames.ite
   makes_none notes good =
       let g = setting_of s k in
       let r = remainder_of s k in
-      let e : step_at g true shared (place_in r.items) r ≡ still r = ap (λ (is : List Frame). step_at g true shared (place_in (items_of s k.line (listed k.locals) is)) r) none in
+      let e : step_at g true shared (place_in r.items) r ≡ still r = ap (λ (is : List Frame). step_at g true shared (place_in (items_of s k.line k.frames.calls is)) r) none in
       subst (λ (m : Move). Makes s m k k notes notes) (sym e) (record { to = refl; lines = sym (append-nil notes); setting = refl; good = good })
 
   pub writes_none : written (setting_of s k) shared (remainder_of s k) ≡ None
   unfolding written
-  writes_none = ap (λ (is : List Frame). write_at (setting_of s k) shared (place_in (items_of s k.line (listed k.locals) is)) (remainder_of s k)) none
+  writes_none = ap (λ (is : List Frame). write_at (setting_of s k) shared (place_in (items_of s k.line k.frames.calls is)) (remainder_of s k)) none
 
 -- No once block is opened.
 pub shared_once : (s : Script) (shared : SharedValues) (old new : Context) (before after : List What) → Makes s (shared_step (setting_of s old) shared (remainder_of s old)) old new before after → HasNoOnce (remainder_of s old) → HasNoOnce (remainder_of s new)

@@ -15,16 +15,16 @@ use Rattle.thr_lines.specs.Layout.{line_at, last_line}
 use Rattle.thr_lines.specs.AtLines.{ActsAt, FormAt}
 use Rattle.thr_stack.specs.declared.frame.Frame.{Frame}
 use Rattle.thr_stack.specs.declared.context.Context.{Context}
-use Rattle.thr_stack.specs.Sights.{listed}
+use Rattle.thr_stack.specs.FrameLists.{below}
 use Rattle.thr_stack.specs.Places.{IsStepLine, IsAtStep}
-use Rattle.thr_stack.specs.Standing.{IsGood, IsPlace, Makes, role_of, below, items_of, remainder_of, setting_of}
+use Rattle.thr_stack.specs.Standing.{IsGood, IsPlace, Makes, role_of, items_of, remainder_of, setting_of}
 use Rattle.thr_stack.proofs.LocalLaws.{length_items}
 use Rattle.thr_stack.proofs.PlaceLaws.{goes_to}
 use Rattle.thr_stack.proofs.Sites.{site, spot, place_is, top}
 use Rattle.thr_frames.specs.Stacks.{asked_by, HasNoCall, IsNextCall}
 
 pub free_is : (s : Script) (k : Context) (n : ℕ) → n + length k.frames.items ≡ k.frames.size → n ≡ free (setting_of s k) (remainder_of s k)
-free_is s k n e = omega (arith, e, length_items s k.line (listed k.locals) k.frames.items)
+free_is s k n e = omega (arith, e, length_items s k.line k.frames.calls k.frames.items)
 
 room_for_two : (size count : ℕ) → nat_le 2 (size - count) ≡ true → count + 2 ≤ size
 room_for_two size count h = grind (arith, nat_tests)
@@ -32,8 +32,8 @@ room_for_two size count h = grind (arith, nat_tests)
 -- Where two frames more fit, there is room for them.
 pub fits_two : (s : Script) (k : Context) → has_room (setting_of s k) (remainder_of s k) 2 ≡ true → length k.frames.items + 2 ≤ k.frames.size
 fits_two s k h =
-    let items = items_of s k.line (listed k.locals) k.frames.items in
-    omega (arith, room_for_two k.frames.size (length items) h, length_items s k.line (listed k.locals) k.frames.items)
+    let items = items_of s k.line k.frames.calls k.frames.items in
+    omega (arith, room_for_two k.frames.size (length items) h, length_items s k.line k.frames.calls k.frames.items)
 
 -- ---- moves from the line of the step
 
@@ -60,7 +60,7 @@ pub has_no_call : (r : Remainder) → asked_at (place_in r.items) ≡ None → H
 has_no_call r none h is = ap asked_at (sym is) ∙ none
 
 pub nowhere_asks : (s : Script) (k : Context) → k.frames.items ≡ [] → asked_at (place_in (remainder_of s k).items) ≡ None
-nowhere_asks s k e = ap (λ (is : List Frame). asked_at (place_in (items_of s k.line (listed k.locals) is))) e
+nowhere_asks s k e = ap (λ (is : List Frame). asked_at (place_in (items_of s k.line k.frames.calls is))) e
 
 -- ---- the line of a call, and other lines
 
@@ -71,8 +71,8 @@ module _ (s : Script) (k : Context) (some : k.frames.items ≢ []) where
   asks_nothing : (line_at s k.line).left ≡ nothing k.line → asked_at (place_in (remainder_of s k).items) ≡ None
   asks_nothing e =
       let t = top k some in
-      ap (λ (is : List Frame). asked_at (place_in (items_of s k.line (listed k.locals) is))) t.2
-      ∙ ap (λ (l : Left). asked_at (place_inside l.todo l.close (role_of s (listed k.locals) t.0.kind) (items_of s t.0.back (below (listed k.locals) t.0.kind) t.1))) e
+      ap (λ (is : List Frame). asked_at (place_in (items_of s k.line k.frames.calls is))) t.2
+      ∙ ap (λ (l : Left). asked_at (place_inside l.todo l.close (role_of s k.frames.calls t.0.kind) (items_of s t.0.back (below k.frames.calls t.0.kind) t.1))) e
 
   -- A line where a step stands asks nothing, unless it is a call's.
   pub none_asked : (row : Row) (f : Form) → FormAt (line_at s) (last_line s) k.line row f → IsPlace s k.line f → ((call : DceCall) → f ≡ form.Dce call → ⊥) → asked_at (place_in (remainder_of s k).items) ≡ None

@@ -1,5 +1,5 @@
 -- What a thread does with the reply of a call (docs/machine.md, "Replies").
-use Rattle.std.specs.Prelude.{◌≡◌, ℤ, List, [], ◌∷◌, slice_set, Option, Some, None}
+use Rattle.std.specs.Prelude.{◌≡◌, ℤ, List, [], ◌∷◌, Option, Some, None}
 use Rattle.thr_values.specs.declared.number.NameId.{NameId}
 use Rattle.thr_values.specs.declared.reply.Reply.{Reply}
 use Rattle.thr_values.specs.Replies.{errno_of}
@@ -12,6 +12,7 @@ use Rattle.thr_remainder.specs.Calls.{stores}
 use Rattle.thr_remainder.specs.Remainders.{Spot, Place, At, place_in, act_at, passed}
 use Rattle.thr_remainder.specs.Replies.{stored_in}
 use Rattle.thr_stack.specs.declared.context.Context.{Context}
+use Rattle.thr_stack.specs.FrameLists.{set_in}
 use Rattle.thr_stack.specs.Standing.{IsGood, remainder_of, setting_of}
 use Rattle.thr_frames.specs.declared.reply.Writes.{Writes}
 use Rattle.thr_frames.specs.declared.stores.Stores.{Stores}
@@ -60,11 +61,11 @@ before_others (Some x) xs = x ∷ xs
 abbrev pub listed_writes : Writes → List (NameId × ℤ)
 listed_writes w = before_others w.first (before_others w.second [])
 
--- Locals that take these values, in their order (docs/machine.md, "Replies").
-abbrev pub locals_with : List (Var × ℤ) → List ℤ → List ℤ
-locals_with [] locals = locals
-locals_with ((Local p, n) ∷ xs) locals = locals_with xs (slice_set locals p n)
-locals_with ((Shared name, n) ∷ xs) locals = locals_with xs locals
+-- The locals of calls, where those of the innermost take these values, in their order (docs/machine.md, "Replies").
+abbrev pub calls_with : List (Var × ℤ) → List (List ℤ) → List (List ℤ)
+calls_with [] calls = calls
+calls_with ((Local p, n) ∷ xs) calls = calls_with xs (set_in calls p n)
+calls_with ((Shared name, n) ∷ xs) calls = calls_with xs calls
 
 -- The call that is next is behind: its values are in the local variables, and `err` is the reply's number (docs/machine.md,
 -- "Replies").

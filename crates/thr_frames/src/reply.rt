@@ -8,15 +8,14 @@ ghost use Rattle.thr_remainder.specs.Calls.{stores, taken, taken_by_read};
 ghost use Rattle.thr_remainder.specs.Declarations.{interface_of};
 ghost use Rattle.thr_remainder.specs.Remainders.{place_in};
 ghost use Rattle.thr_remainder.specs.Replies.{is_eagain, is_timed_wait, raised_by, replied, shared_in, writes};
-ghost use Rattle.thr_stack.specs.Sights.{listed};
 ghost use Rattle.thr_stack.specs.Standing.{IsGood, Stands, Makes, remainder_of, setting_of};
-ghost use Rattle.thr_frames.specs.Replies.{stores_at, shared_store, first_store, second_store, listed_stores, listed_writes, locals_with, IsBehind};
+ghost use Rattle.thr_frames.specs.Replies.{stores_at, shared_store, first_store, second_store, listed_stores, listed_writes, calls_with, IsBehind};
 ghost use Rattle.thr_frames.specs.Stacks.{CanNumber};
 
 use crate::stores::Stores;
 use thr_lines::lines::Lines;
 use thr_stack::context::Context;
-use thr_stack::frame::Locals;
+use thr_stack::frames::Frames;
 use thr_stack::notes::Notes;
 use thr_stack::place::go_to_step;
 use thr_stack::raise::raise;
@@ -86,25 +85,25 @@ fn stores(call: &DceCall, reply: &Reply) -> Stores
 }
 
 /// A local variable takes this value; a shared one is not among them.
-fn keep(locals: &mut Locals, v: Var, n: i64)
-    ensures { listed locals.new ≡ locals_with ((v, n) ∷ []) (listed locals.old) }
+fn keep(frames: &mut Frames, v: Var, n: i64)
+    ensures { frames.new ≡ record frames.old { calls = calls_with ((v, n) ∷ []) frames.old.calls } }
 {
     match v {
-        Var::Local(p) => locals.set(p, n),
+        Var::Local(p) => frames.set_local(p, n),
         Var::Shared(_) => {}
     }
 }
 
 /// The local variables take their values, in their order.
-fn keep_all(locals: &mut Locals, stores: Stores)
-    ensures { listed locals.new ≡ locals_with (listed_stores stores) (listed locals.old) }
+fn keep_all(frames: &mut Frames, stores: Stores)
+    ensures { frames.new ≡ record frames.old { calls = calls_with (listed_stores stores) frames.old.calls } }
 {
     match stores {
         Stores::Nothing => {}
-        Stores::One(v, n) => keep(locals, v, n),
+        Stores::One(v, n) => keep(frames, v, n),
         Stores::Two(v, n, w, m) => {
-            keep(locals, v, n);
-            keep(locals, w, m);
+            keep(frames, v, n);
+            keep(frames, w, m);
         }
     }
 }
@@ -177,7 +176,7 @@ fn go_past(lines: &Lines, context: &mut Context, call: &DceCall, reply: &Reply, 
 {
     let _count = lines.len();
     context.line += 1;
-    keep_all(&mut context.locals, values);
+    keep_all(&mut context.frames, values);
     context.err = errno(reply);
 }
 

@@ -25,7 +25,6 @@ use std::marker::Model;
 use thr_lines::lines::Lines;
 use thr_stack::begin::{begin_destructor, begin_once};
 use thr_stack::context::Context;
-use thr_stack::frame::Locals;
 use thr_stack::frames::Frames;
 use thr_stack::notes::Notes;
 use thr_stack::once::{end_once, undo_once};
@@ -81,7 +80,6 @@ impl Stack {
                 context: Context {
                     frames,
                     line: 0,
-                    locals: Locals::first(0, 0),
                     under_way: None,
                     value: 0,
                     err: 0,
@@ -125,7 +123,6 @@ impl Stack {
         ensures most { most_frames self.new ≡ most_frames self.old }
     {
         self.context.frames.clear();
-        self.context.locals = Locals::first(0, 0);
     }
 
     /// The thread begins at this routine with this argument.

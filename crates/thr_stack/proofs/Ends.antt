@@ -15,14 +15,12 @@ use Rattle.thr_remainder.specs.Steps.{ended, stored, kept, items_tried, line_tri
 use Rattle.thr_lines.specs.declared.row.Row.{Row}
 use Rattle.thr_lines.specs.Layout.{line_at, last_line}
 use Rattle.thr_lines.specs.AtLines.{EndsTryBody, FormAt}
-use Rattle.thr_stack.specs.declared.frame.Locals.{Locals}
 use Rattle.thr_stack.specs.declared.frame.Kind.{Kind}
 use Rattle.thr_stack.specs.declared.frame.Kind.TheVariants as kind
 use Rattle.thr_stack.specs.declared.frame.Frame.{Frame}
 use Rattle.thr_stack.specs.declared.context.Context.{Context}
-use Rattle.thr_stack.specs.FrameLists.{FramesView}
-use Rattle.thr_stack.specs.Sights.{listed}
-use Rattle.thr_stack.specs.Standing.{role_of, below, items_of, remainder_of, setting_of, IsLine, IsKind, AreFrames, Stands, StepsAnyhow, stored_list, kept_by, Ends}
+use Rattle.thr_stack.specs.FrameLists.{FramesView, outside, below}
+use Rattle.thr_stack.specs.Standing.{role_of, items_of, remainder_of, setting_of, IsLine, IsKind, AreFrames, Stands, StepsAnyhow, stored_calls, kept_by, Ends}
 use Rattle.thr_stack.specs.Statements.{IsReturned}
 use Rattle.thr_stack.proofs.LocalLaws.{stored_is, kept_is}
 use Rattle.thr_stack.proofs.Sites.{ends_is, steps_by, good_stored, good_with}
@@ -70,85 +68,86 @@ ends_catches s first row form.End a w none = absurd w
 
 -- ---- ends
 
-module _ (s : Script) (k : Context) (n : List What) (h : Stands s k) (here : (line_at s k.line).left ≡ nothing k.line) (f : Frame) (frames : FramesView) (items : k.frames.items ≡ f ∷ frames.items) (size : frames.size ≡ k.frames.size) where
-  frames_good : AreFrames s k.line (listed k.locals) (f ∷ frames.items)
-  frames_good = subst (AreFrames s k.line (listed k.locals)) items h.good
+module _ (s : Script) (k : Context) (n : List What) (h : Stands s k) (here : (line_at s k.line).left ≡ nothing k.line) (f : Frame) (frames : FramesView) (items : k.frames.items ≡ f ∷ frames.items) (size : frames.size ≡ k.frames.size) (calls : frames.calls ≡ below k.frames.calls f.kind) where
+  frames_good : AreFrames s k.line k.frames.calls (f ∷ frames.items)
+  frames_good = subst (AreFrames s k.line k.frames.calls) items h.good
 
-  -- The frames below a frame of this kind.
-  below_good : (x : Kind) → f.kind ≡ x → AreFrames s f.back (below (listed k.locals) x) frames.items
+  -- The frames below.
+  below_good : AreFrames s f.back frames.calls frames.items
   unfolding frames_good
-  below_good x is = good_with s f.back (below (listed k.locals) f.kind) (below (listed k.locals) x) frames.items (ap (below (listed k.locals)) (sym is)) frames_good.2
+  below_good = good_with s f.back (below k.frames.calls f.kind) frames.calls frames.items calls frames_good.2
 
-  -- A frame is left: its locals are those of the context.
-  left_frame : (x : Kind) (pending : Option Unwinding) (line : What) (more : List What) → f.kind ≡ x → below (listed k.locals) x ≡ listed k.locals →
-      ended (role_of s (listed k.locals) x) (items_of s f.back (below (listed k.locals) x) frames.items) (remainder_of s k) ≡
-      record { to = record (remainder_of s k) { items = items_of s f.back (below (listed k.locals) x) frames.items; under_way = pending }; lines = line ∷ [] } →
+  -- A frame is left.
+  left_frame : (x : Kind) (pending : Option Unwinding) (line : What) (more : List What) → f.kind ≡ x →
+      ended (role_of s k.frames.calls x) (items_of s f.back (below k.frames.calls x) frames.items) (remainder_of s k) ≡
+      record { to = record (remainder_of s k) { items = items_of s f.back (below k.frames.calls x) frames.items; under_way = pending }; lines = line ∷ [] } →
       more ≡ n ++ line ∷ [] → StepsAnyhow s k (record k { frames = frames; line = f.back; under_way = pending }) n more
-  unfolding frames_good below_good
-  left_frame x pending line more is same step w tells shared =
+  unfolding below_good
+  left_frame x pending line more is step w tells shared =
       let r = remainder_of s k in
       let move : List Item → Move = λ is. record { to = record r { items = is; under_way = pending }; lines = line ∷ [] } in
-      steps_by s k (record k { frames = frames; line = f.back; under_way = pending }) n more tells shared (move (items_of s f.back (listed k.locals) frames.items))
-      (ends_is s k f frames.items tells shared items here ∙ ap (λ (y : Kind). ended (role_of s (listed k.locals) y) (items_of s f.back (below (listed k.locals) y) frames.items) r) is
-      ∙ step ∙ ap (λ ls. move (items_of s f.back ls frames.items)) same)
-      (record { to = refl; lines = w; setting = ap (λ z. record (setting_of s k) { size = z }) size; good = good_with s f.back (below (listed k.locals) x) (listed k.locals) frames.items (sym same) (below_good x is) })
+      steps_by s k (record k { frames = frames; line = f.back; under_way = pending }) n more tells shared (move (items_of s f.back frames.calls frames.items))
+      (ends_is s k f frames.items tells shared items here ∙ ap (λ (y : Kind). ended (role_of s k.frames.calls y) (items_of s f.back (below k.frames.calls y) frames.items) r) is
+      ∙ step ∙ ap (λ cs. move (items_of s f.back cs frames.items)) (sym (calls ∙ ap (below k.frames.calls) is)))
+      (record { to = refl; lines = w; setting = ap (λ z. record (setting_of s k) { size = z }) size; good = below_good })
 
   pub leave_catch : (scope : ℕ) (caught : Exc) (more : List What) → f.kind ≡ kind.Catch scope caught → more ≡ n ++ what.Endcatch scope ∷ [] → StepsAnyhow s k (record k { frames = frames; line = f.back }) n more
-  leave_catch scope caught more is w = left_frame (kind.Catch scope caught) k.under_way (what.Endcatch scope) more is refl refl w
+  leave_catch scope caught more is w = left_frame (kind.Catch scope caught) k.under_way (what.Endcatch scope) more is refl w
 
   pub leave_finally : (scope : ℕ) (pending : Option Unwinding) (more : List What) → f.kind ≡ kind.Finally scope pending → more ≡ n ++ what.Endfin scope ∷ [] →
       StepsAnyhow s k (record k { frames = frames; line = f.back; under_way = pending }) n more
-  leave_finally scope pending more is w = left_frame (kind.Finally scope pending) pending (what.Endfin scope) more is refl refl w
+  leave_finally scope pending more is w = left_frame (kind.Finally scope pending) pending (what.Endfin scope) more is refl w
 
   pub leave_once : (scope : ℕ) (block routine : NameId) (more : List What) → f.kind ≡ kind.Once scope block routine → more ≡ n ++ what.Done scope ∷ [] → StepsAnyhow s k (record k { frames = frames; line = f.back }) n more
-  leave_once scope block routine more is w = left_frame (kind.Once scope block routine) k.under_way (what.Done scope) more is refl refl w
+  leave_once scope block routine more is w = left_frame (kind.Once scope block routine) k.under_way (what.Done scope) more is refl w
 
   pub leave_barrier : (scope : ℕ) (key routine : NameId) (more : List What) → f.kind ≡ kind.Barrier scope key routine → more ≡ n ++ what.Enddes scope ∷ [] → StepsAnyhow s k (record k { frames = frames; line = f.back }) n more
-  leave_barrier scope key routine more is w = left_frame (kind.Barrier scope key routine) k.under_way (what.Enddes scope) more is refl refl w
+  leave_barrier scope key routine more is w = left_frame (kind.Barrier scope key routine) k.under_way (what.Enddes scope) more is refl w
 
   pub leave_try : (scope first : ℕ) (more : List What) → f.kind ≡ kind.Try scope first → Ends s first false → more ≡ n ++ what.Endtry scope ∷ [] → StepsAnyhow s k (record k { frames = frames; line = f.back }) n more
   leave_try scope first more is ways w =
-      left_frame (kind.Try scope first) k.under_way (what.Endtry scope) more is refl
-      (ap (λ (x : Ways). leaves (items_tried scope x (items_of s f.back (listed k.locals) frames.items)) (line_tried scope x) (remainder_of s k)) ways.1) w
+      left_frame (kind.Try scope first) k.under_way (what.Endtry scope) more is
+      (ap (λ (x : Ways). leaves (items_tried scope x (items_of s f.back k.frames.calls frames.items)) (line_tried scope x) (remainder_of s k)) ways.1) w
 
   pub leave_into_finally : (scope first : ℕ) (all : FramesView) (more : List What) → f.kind ≡ kind.Try scope first → Ends s first true → all ≡ record frames { items = record { kind = kind.Finally scope None; back = f.back } ∷ frames.items } →
       more ≡ n ++ what.Finally scope 0 ∷ [] → StepsAnyhow s k (record k { frames = all; line = first + 1 }) n more
-  unfolding frames_good below_good
+  unfolding below_good
   leave_into_finally scope first all more is ways all_is w =
       let r = remainder_of s k in
-      let outer = items_of s f.back (listed k.locals) frames.items in
+      let outer = items_of s f.back k.frames.calls frames.items in
       let whole : FramesView = record frames { items = record { kind = kind.Finally scope None; back = f.back } ∷ frames.items } in
       let moved : StepsAnyhow s k (record k { frames = whole; line = first + 1 }) n more = λ tells shared.
       steps_by s k (record k { frames = whole; line = first + 1 }) n more tells shared
       (leaves (record { role = Finishing scope None; inside = (line_at s (first + 1)).left } ∷ outer) (what.Finally scope 0) r)
-      (ends_is s k f frames.items tells shared items here ∙ ap (λ (y : Kind). ended (role_of s (listed k.locals) y) (items_of s f.back (below (listed k.locals) y) frames.items) r) is
+      (ends_is s k f frames.items tells shared items here ∙ ap (λ (y : Kind). ended (role_of s k.frames.calls y) (items_of s f.back (below k.frames.calls y) frames.items) r) is
       ∙ ap (λ (x : Ways). leaves (items_tried scope x outer) (line_tried scope x) r) ways.1)
       (record {
-        to = refl;
+        to = ap (λ cs. record r { items = record { role = Finishing scope None; inside = (line_at s (first + 1)).left } ∷ items_of s f.back cs frames.items }) (calls ∙ ap (below k.frames.calls) is);
         lines = w;
         setting = ap (λ z. record (setting_of s k) { size = z }) size;
-        good = (ways.0, tt, below_good (kind.Try scope first) is);
+        good = (ways.0, tt, below_good);
       }) in
       subst (λ (p : FramesView). StepsAnyhow s k (record k { frames = p; line = first + 1 }) n more) (sym all_is) moved
 
-  pub leave_call : (place : Option ℕ) (saved : Locals) (new : Context) → f.kind ≡ kind.Call place saved → IsReturned (record k { frames = frames }) new place saved f.back (pos 0) → StepsAnyhow s k new n n
-  unfolding frames_good below_good
-  leave_call place saved new is ret =
+  pub leave_call : (place : Option ℕ) (count : ℕ) (new : Context) → f.kind ≡ kind.Call place count → IsReturned (record k { frames = frames }) new place f.back (pos 0) → StepsAnyhow s k new n n
+  unfolding below_good
+  leave_call place count new is ret =
       let r = remainder_of s k in
       let move : List Item → ℤ → Move = λ is v. still (record r { items = is; value = v }) in
-      let outer = items_of s f.back (listed saved) frames.items in
-      let there : Context = record k { frames = frames; line = f.back; locals = new.locals; value = kept_by frames.items (pos 0) k.value } in
+      let outer = items_of s f.back (outside k.frames.calls) frames.items in
+      let there : Context = record k { frames = record frames { calls = stored_calls place (pos 0) frames.calls }; line = f.back; value = kept_by frames.items (pos 0) k.value } in
+      let rest : frames.calls ≡ outside k.frames.calls = calls ∙ ap (below k.frames.calls) is in
       let moved : StepsAnyhow s k there n n = λ tells shared.
       steps_by s k there n n tells shared (move (stored place (pos 0) outer) (kept outer (pos 0) k.value))
-      (ends_is s k f frames.items tells shared items here ∙ ap (λ (y : Kind). ended (role_of s (listed k.locals) y) (items_of s f.back (below (listed k.locals) y) frames.items) r) is)
+      (ends_is s k f frames.items tells shared items here ∙ ap (λ (y : Kind). ended (role_of s k.frames.calls y) (items_of s f.back (below k.frames.calls y) frames.items) r) is)
       (record {
-        to = ((λ i. (move (items_of s f.back (ret.stored i) frames.items) (sym (kept_is s f.back (listed saved) frames.items (pos 0) k.value) i)).to)
-            ∙ ap (λ (x : List Item). (move x (kept outer (pos 0) k.value)).to) (sym (stored_is s place (pos 0) f.back (listed saved) frames.items)));
+        to = ((λ i. (move (items_of s f.back (stored_calls place (pos 0) (rest i)) frames.items) (sym (kept_is s f.back (outside k.frames.calls) frames.items (pos 0) k.value) i)).to)
+            ∙ ap (λ (x : List Item). (move x (kept outer (pos 0) k.value)).to) (sym (stored_is s place (pos 0) f.back (outside k.frames.calls) frames.items)));
         lines = sym (append-nil n);
         setting = ap (λ z. record (setting_of s k) { size = z }) size;
-        good = good_with s f.back (stored_list place (pos 0) (listed saved)) (listed new.locals) frames.items ret.stored (good_stored s place (pos 0) f.back (listed saved) frames.items (below_good (kind.Call place saved) is));
+        good = good_stored s place (pos 0) f.back frames.calls frames.items below_good;
       }) in
-      subst (λ (x : Context). StepsAnyhow s k x n n) (sym ret.same) moved
+      subst (λ (x : Context). StepsAnyhow s k x n n) (sym ret) moved
 
   pub try_line : (scope first : ℕ) → f.kind ≡ kind.Try scope first → IsLine s first × EndsTryBody (line_at s first).row.form
   unfolding frames_good

@@ -1,3 +1,4 @@
+pub mod FitLaws
 pub mod LocalLaws
 pub mod Sites
 pub mod Outcomes

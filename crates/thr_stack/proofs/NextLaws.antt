@@ -27,8 +27,8 @@ use Rattle.thr_stack.specs.declared.context.Context.{Context}
 use Rattle.thr_stack.specs.declared.next.Stood.TheVariants as stood
 use Rattle.thr_stack.specs.FrameLists.{AtOnce}
 use Rattle.thr_stack.specs.Forms.{expression_of, shares, ends}
-use Rattle.thr_stack.specs.Sights.{listed}
-use Rattle.thr_stack.specs.Standing.{role_of, below, items_of, remainder_of, setting_of, IsPlace}
+use Rattle.thr_stack.specs.FrameLists.{below}
+use Rattle.thr_stack.specs.Standing.{role_of, items_of, remainder_of, setting_of, IsPlace}
 use Rattle.thr_stack.specs.Nexts.{IsNext}
 use Rattle.thr_stack.proofs.PlaceLaws.{closes_here, first_here, line_is}
 use Rattle.thr_stack.proofs.Sites.{site, spot, place_is, write_is, top}
@@ -36,7 +36,7 @@ use Rattle.thr_stack.proofs.Sites.{site, spot, place_is, write_is, top}
 -- ---- an unwinding under way
 
 module _ (s : Script) (k : Context) (u : Unwinding) (under : k.under_way ≡ Some u) where
-  pub by_unwinding : next (setting_of s k) (remainder_of s k) ≡ next_outward u (items_of s k.line (listed k.locals) k.frames.items) (remainder_of s k) (outward (setting_of s k) u (remainder_of s k))
+  pub by_unwinding : next (setting_of s k) (remainder_of s k) ≡ next_outward u (items_of s k.line k.frames.calls k.frames.items) (remainder_of s k) (outward (setting_of s k) u (remainder_of s k))
   unfolding next
   by_unwinding = ap (λ (o : Option Unwinding). next_by (setting_of s k) o (remainder_of s k)) under
 
@@ -45,15 +45,15 @@ module _ (s : Script) (k : Context) (u : Unwinding) (under : k.under_way ≡ Som
       let r = remainder_of s k in
       let m = outward (setting_of s k) u r in
       let f = h.0 in
-      let outer = items_of s f.back (below (listed k.locals) f.kind) h.1 in (
+      let outer = items_of s f.back (below k.frames.calls f.kind) h.1 in (
         h.3,
         undone h.2 u outer r,
-        by_unwinding ∙ ap (λ (x : List Frame). next_outward u (items_of s k.line (listed k.locals) x) r m) h.5
-            ∙ ap (λ (x : Kind). outward_or_undone (role_of s (listed k.locals) x) u outer r m) h.6,
+        by_unwinding ∙ ap (λ (x : List Frame). next_outward u (items_of s k.line k.frames.calls x) r m) h.5
+            ∙ ap (λ (x : Kind). outward_or_undone (role_of s k.frames.calls x) u outer r m) h.6,
       )
 
-  out_or : (x : Kind) → ((scope : ℕ) (block routine : NameId) → x ≡ kind.Once scope block routine → ⊥) → (outer : List Item) (m : Move) → outward_or_undone (role_of s (listed k.locals) x) u outer (remainder_of s k) m ≡ GoesOutward m
-  out_or (kind.Call place saved) h outer m = refl
+  out_or : (x : Kind) → ((scope : ℕ) (block routine : NameId) → x ≡ kind.Once scope block routine → ⊥) → (outer : List Item) (m : Move) → outward_or_undone (role_of s k.frames.calls x) u outer (remainder_of s k) m ≡ GoesOutward m
+  out_or (kind.Call place count) h outer m = refl
   out_or (kind.Try scope first) h outer m = refl
   out_or (kind.Catch scope caught) h outer m = refl
   out_or (kind.Finally scope pending) h outer m = refl
@@ -64,11 +64,11 @@ module _ (s : Script) (k : Context) (u : Unwinding) (under : k.under_way ≡ Som
   goes_outward h = by k.frames.items refl
     where
       by : (items : List Frame) → k.frames.items ≡ items → next (setting_of s k) (remainder_of s k) ≡ GoesOutward (outward (setting_of s k) u (remainder_of s k))
-      by [] e = by_unwinding ∙ ap (λ (x : List Frame). next_outward u (items_of s k.line (listed k.locals) x) (remainder_of s k) (outward (setting_of s k) u (remainder_of s k))) e
+      by [] e = by_unwinding ∙ ap (λ (x : List Frame). next_outward u (items_of s k.line k.frames.calls x) (remainder_of s k) (outward (setting_of s k) u (remainder_of s k))) e
       by (f ∷ fs) e =
           let r = remainder_of s k in
           let m = outward (setting_of s k) u r in
-          by_unwinding ∙ ap (λ (x : List Frame). next_outward u (items_of s k.line (listed k.locals) x) r m) e ∙ out_or f.kind (h f fs e) (items_of s f.back (below (listed k.locals) f.kind) fs) m
+          by_unwinding ∙ ap (λ (x : List Frame). next_outward u (items_of s k.line k.frames.calls x) r m) e ∙ out_or f.kind (h f fs e) (items_of s f.back (below k.frames.calls f.kind) fs) m
 
 -- ---- no unwinding under way
 
@@ -78,7 +78,7 @@ module _ (s : Script) (k : Context) (free : k.under_way ≡ None) where
   free_next = ap (λ (u : Option Unwinding). next_by (setting_of s k) u (remainder_of s k)) free
 
   pub next_none : k.frames.items ≡ [] → IsNext s k stood.Ended
-  next_none e = (free_next ∙ ap (λ (fs : List Frame). next_at (place_in (items_of s k.line (listed k.locals) fs)) (remainder_of s k) (quiet (setting_of s k) (remainder_of s k))) e, e)
+  next_none e = (free_next ∙ ap (λ (fs : List Frame). next_at (place_in (items_of s k.line k.frames.calls fs)) (remainder_of s k) (quiet (setting_of s k) (remainder_of s k))) e, e)
 
   module _ (some : k.frames.items ≢ []) where
     next_stmt : (rest : Left) (act : Act) (shared : Bool) → (d : ActsAt (line_at s) k.line rest act shared) →
@@ -186,35 +186,35 @@ module _ (s : Script) (k : Context) (free : k.under_way ≡ None) where
       next_quiet e is = (quiet_stmt row x a e is, at_line, some)
 
       next_close : (f : Frame) (fs : List Frame) → k.frames.items ≡ f ∷ fs → ends x ≡ true →
-          next (setting_of s k) (remainder_of s k) ≡ next_end (role_of s (listed k.locals) f.kind) (items_of s f.back (below (listed k.locals) f.kind) fs) (remainder_of s k) (quiet (setting_of s k) (remainder_of s k))
+          next (setting_of s k) (remainder_of s k) ≡ next_end (role_of s k.frames.calls f.kind) (items_of s f.back (below k.frames.calls f.kind) fs) (remainder_of s k) (quiet (setting_of s k) (remainder_of s k))
       next_close f fs items e =
           let r = remainder_of s k in
           let q = quiet (setting_of s k) r in
-          let role = role_of s (listed k.locals) f.kind in
-          let outer = items_of s f.back (below (listed k.locals) f.kind) fs in
+          let role = role_of s k.frames.calls f.kind in
+          let outer = items_of s f.back (below k.frames.calls f.kind) fs in
           free_next
-          ∙ ap (λ (is : List Frame). next_at (place_in (items_of s k.line (listed k.locals) is)) r q) items
+          ∙ ap (λ (is : List Frame). next_at (place_in (items_of s k.line k.frames.calls is)) r q) items
           ∙ ap (λ (l : Left). next_at (place_inside l.todo l.close role outer) r q) (closes_here s k.line row x a p e)
 
-      once_or : (y : Kind) → ((scope : ℕ) (block routine : NameId) → y ≡ kind.Once scope block routine → ⊥) → (locals : List ℤ) (outer : List Item) (r : Remainder) (m : Move) → next_end (role_of s locals y) outer r m ≡ StepsQuietly m
-      once_or (kind.Call place saved) non locals outer r m = refl
-      once_or (kind.Try scope first) non locals outer r m = refl
-      once_or (kind.Catch scope caught) non locals outer r m = refl
-      once_or (kind.Finally scope pending) non locals outer r m = refl
-      once_or (kind.Once scope block routine) non locals outer r m = absurd (non scope block routine refl)
-      once_or (kind.Barrier scope key routine) non locals outer r m = refl
+      once_or : (y : Kind) → ((scope : ℕ) (block routine : NameId) → y ≡ kind.Once scope block routine → ⊥) → (calls : List (List ℤ)) (outer : List Item) (r : Remainder) (m : Move) → next_end (role_of s calls y) outer r m ≡ StepsQuietly m
+      once_or (kind.Call place count) non calls outer r m = refl
+      once_or (kind.Try scope first) non calls outer r m = refl
+      once_or (kind.Catch scope caught) non calls outer r m = refl
+      once_or (kind.Finally scope pending) non calls outer r m = refl
+      once_or (kind.Once scope block routine) non calls outer r m = absurd (non scope block routine refl)
+      once_or (kind.Barrier scope key routine) non calls outer r m = refl
 
       pub next_once : ends x ≡ true → AtOnce k.frames.items true → IsNext s k stood.EndsOnce
       next_once e h =
           let f = h.0 in
           let r = remainder_of s k in
-          (h.3, next_close f h.1 h.5 e ∙ ap (λ (y : Kind). next_end (role_of s (listed k.locals) y) (items_of s f.back (below (listed k.locals) f.kind) h.1) r (quiet (setting_of s k) r)) h.6, at_line)
+          (h.3, next_close f h.1 h.5 e ∙ ap (λ (y : Kind). next_end (role_of s k.frames.calls y) (items_of s f.back (below k.frames.calls f.kind) h.1) r (quiet (setting_of s k) r)) h.6, at_line)
 
       pub next_end_quiet : ends x ≡ true → AtOnce k.frames.items false → IsNext s k stood.Quiet
       next_end_quiet e h =
           let t = top k some in
           let r = remainder_of s k in (
-            next_close t.0 t.1 t.2 e ∙ once_or t.0.kind (h t.0 t.1 t.2) (listed k.locals) (items_of s t.0.back (below (listed k.locals) t.0.kind) t.1) r (quiet (setting_of s k) r),
+            next_close t.0 t.1 t.2 e ∙ once_or t.0.kind (h t.0 t.1 t.2) k.frames.calls (items_of s t.0.back (below k.frames.calls t.0.kind) t.1) r (quiet (setting_of s k) r),
             at_line,
             some,
           )
@@ -244,8 +244,8 @@ no_write_at s k values some e =
     let t = top k some in
     let g = setting_of s k in
     let r = remainder_of s k in
-    ap (λ (is : List Frame). write_at g values (place_in (items_of s k.line (listed k.locals) is)) r) t.2
-    ∙ ap (λ (l : Left). write_at g values (place_inside l.todo l.close (role_of s (listed k.locals) t.0.kind) (items_of s t.0.back (below (listed k.locals) t.0.kind) t.1)) r) e
+    ap (λ (is : List Frame). write_at g values (place_in (items_of s k.line k.frames.calls is)) r) t.2
+    ∙ ap (λ (l : Left). write_at g values (place_inside l.todo l.close (role_of s k.frames.calls t.0.kind) (items_of s t.0.back (below k.frames.calls t.0.kind) t.1)) r) e
 
 pub no_write : (s : Script) (k : Context) (values : SharedValues) (row : Row) (f : Form) → k.frames.items ≢ [] → FormAt (line_at s) (last_line s) k.line row f → IsPlace s k.line f → expression_of f ≡ None →
     write_at (setting_of s k) values (place_in (remainder_of s k).items) (remainder_of s k) ≡ None

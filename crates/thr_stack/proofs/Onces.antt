@@ -19,9 +19,8 @@ use Rattle.thr_stack.specs.declared.frame.Kind.{Kind}
 use Rattle.thr_stack.specs.declared.frame.Kind.TheVariants as kind
 use Rattle.thr_stack.specs.declared.frame.Frame.{Frame}
 use Rattle.thr_stack.specs.declared.context.Context.{Context}
-use Rattle.thr_stack.specs.FrameLists.{AtOnce}
-use Rattle.thr_stack.specs.Sights.{listed}
-use Rattle.thr_stack.specs.Standing.{role_of, below, items_of, remainder_of, setting_of, AreFrames, IsGood, Makes}
+use Rattle.thr_stack.specs.FrameLists.{AtOnce, below}
+use Rattle.thr_stack.specs.Standing.{role_of, items_of, remainder_of, setting_of, AreFrames, IsGood, Makes}
 use Rattle.thr_stack.specs.Onces.{HasLeft}
 use Rattle.thr_stack.proofs.NextLaws.{by_unwinding, free_next}
 use Rattle.thr_stack.proofs.Sites.{good_with}
@@ -93,13 +92,13 @@ not_doing (Doing scope block routine) n m i j d e = d e
 not_doing (Barrier scope key routine) n m i j d e = absurd (omega (arith, j, e))
 
 -- A frame whose item is a once block's is one's.
-doing_kind : (s : Script) (locals : List ℤ) (x : Kind) (n : ℕ) → 0 < n → doing (role_of s locals x) n ≡ n → (scope : ℕ) × (block : NameId) × (routine : NameId) × (x ≡ kind.Once scope block routine)
-doing_kind s locals (kind.Call place saved) n i e = absurd (omega (arith, i, e))
-doing_kind s locals (kind.Try scope first) n i e = absurd (omega (arith, i, e))
-doing_kind s locals (kind.Catch scope caught) n i e = absurd (omega (arith, i, e))
-doing_kind s locals (kind.Finally scope pending) n i e = absurd (omega (arith, i, e))
-doing_kind s locals (kind.Once scope block routine) n i e = (scope, block, routine, refl)
-doing_kind s locals (kind.Barrier scope key routine) n i e = absurd (omega (arith, i, e))
+doing_kind : (s : Script) (calls : List (List ℤ)) (x : Kind) (n : ℕ) → 0 < n → doing (role_of s calls x) n ≡ n → (scope : ℕ) × (block : NameId) × (routine : NameId) × (x ≡ kind.Once scope block routine)
+doing_kind s calls (kind.Call place count) n i e = absurd (omega (arith, i, e))
+doing_kind s calls (kind.Try scope first) n i e = absurd (omega (arith, i, e))
+doing_kind s calls (kind.Catch scope caught) n i e = absurd (omega (arith, i, e))
+doing_kind s calls (kind.Finally scope pending) n i e = absurd (omega (arith, i, e))
+doing_kind s calls (kind.Once scope block routine) n i e = (scope, block, routine, refl)
+doing_kind s calls (kind.Barrier scope key routine) n i e = absurd (omega (arith, i, e))
 
 -- ---- where no unwinding is under way
 
@@ -123,31 +122,31 @@ module _ (s : Script) (k : Context) where
   sign_under u (i ∷ outer) m e = not_doing i.role 2 1 (omega arith) (omega arith) (λ z. absurd (omega (arith, z))) (sym (sign_out i.role u outer (remainder_of s k) m) ∙ e)
 
   free_sign : (items : List Frame) (n : ℕ) → k.under_way ≡ None → k.frames.items ≡ items → sign (next (setting_of s k) (remainder_of s k)) ≡ n →
-      sign (next_at (place_in (items_of s k.line (listed k.locals) items)) (remainder_of s k) (quiet (setting_of s k) (remainder_of s k))) ≡ n
+      sign (next_at (place_in (items_of s k.line k.frames.calls items)) (remainder_of s k) (quiet (setting_of s k) (remainder_of s k))) ≡ n
   free_sign items n free same e =
       let r = remainder_of s k in
       let q = quiet (setting_of s k) r in
-      sym (ap (λ (is : List Frame). sign (next_at (place_in (items_of s k.line (listed k.locals) is)) r q)) same) ∙ (ap sign (sym (free_next s k free)) ∙ e)
+      sym (ap (λ (is : List Frame). sign (next_at (place_in (items_of s k.line k.frames.calls is)) r q)) same) ∙ (ap sign (sym (free_next s k free)) ∙ e)
 
   sign_free : (n : ℕ) → k.under_way ≡ None → 0 < n → sign (next (setting_of s k) (remainder_of s k)) ≡ n →
-      (f : Frame) × (fs : List Frame) × (k.frames.items ≡ f ∷ fs) × ((line_at s k.line).left.todo ≡ []) × (doing (role_of s (listed k.locals) f.kind) 1 ≡ n)
+      (f : Frame) × (fs : List Frame) × (k.frames.items ≡ f ∷ fs) × ((line_at s k.line).left.todo ≡ []) × (doing (role_of s k.frames.calls f.kind) 1 ≡ n)
   sign_free n free i e = by k.frames.items refl
     where
-      by : (items : List Frame) → k.frames.items ≡ items → (f : Frame) × (fs : List Frame) × (k.frames.items ≡ f ∷ fs) × ((line_at s k.line).left.todo ≡ []) × (doing (role_of s (listed k.locals) f.kind) 1 ≡ n)
+      by : (items : List Frame) → k.frames.items ≡ items → (f : Frame) × (fs : List Frame) × (k.frames.items ≡ f ∷ fs) × ((line_at s k.line).left.todo ≡ []) × (doing (role_of s k.frames.calls f.kind) 1 ≡ n)
       by [] same = let none : 0 ≡ n = free_sign [] n free same e in absurd (omega (arith, i, none))
       by (f ∷ fs) same =
           let left = (line_at s k.line).left in
-          let t = sign_inside left.todo left.close (role_of s (listed k.locals) f.kind) (items_of s f.back (below (listed k.locals) f.kind) fs) (remainder_of s k) (quiet (setting_of s k) (remainder_of s k)) n i (free_sign (f ∷ fs) n free same e) in
+          let t = sign_inside left.todo left.close (role_of s k.frames.calls f.kind) (items_of s f.back (below k.frames.calls f.kind) fs) (remainder_of s k) (quiet (setting_of s k) (remainder_of s k)) n i (free_sign (f ∷ fs) n free same e) in
           (f, fs, same, t.0, t.1)
 
   pub ends_here : (block : NameId) (move : Move) → next (setting_of s k) (remainder_of s k) ≡ EndsOnce block move → EndsHere s k
   ends_here block move e = by k.under_way refl
     where
       by : (o : Option Unwinding) → k.under_way ≡ o → EndsHere s k
-      by (Some u) under = absurd (sign_under u (items_of s k.line (listed k.locals) k.frames.items) (outward (setting_of s k) u (remainder_of s k)) (ap sign (sym (by_unwinding s k u under) ∙ e)))
+      by (Some u) under = absurd (sign_under u (items_of s k.line k.frames.calls k.frames.items) (outward (setting_of s k) u (remainder_of s k)) (ap sign (sym (by_unwinding s k u under) ∙ e)))
       by None free =
           let t = sign_free 1 free (omega arith) (ap sign e) in
-          let x = doing_kind s (listed k.locals) t.0.kind 1 (omega arith) t.4 in
+          let x = doing_kind s k.frames.calls t.0.kind 1 (omega arith) t.4 in
           record { free = free; todo = t.3; at_once = (t.0, t.1, x.0, x.1, x.2, t.2, x.3) }
 
   -- ---- where an unwinding is under way
@@ -155,14 +154,14 @@ module _ (s : Script) (k : Context) where
   pub undoes_under : (block : NameId) (move : Move) → next (setting_of s k) (remainder_of s k) ≡ UndoesOnce block move → k.under_way ≡ None → ⊥
   undoes_under block move e free =
       let t = sign_free 2 free (omega arith) (ap sign e) in
-      not_doing (role_of s (listed k.locals) t.0.kind) 1 2 (omega arith) (omega arith) (λ z. absurd (omega (arith, z))) t.4
+      not_doing (role_of s k.frames.calls t.0.kind) 1 2 (omega arith) (omega arith) (λ z. absurd (omega (arith, z))) t.4
 
   under_sign : (items : List Frame) (u : Unwinding) → k.under_way ≡ Some u → k.frames.items ≡ items → sign (next (setting_of s k) (remainder_of s k)) ≡ 2 →
-      sign (next_outward u (items_of s k.line (listed k.locals) items) (remainder_of s k) (outward (setting_of s k) u (remainder_of s k))) ≡ 2
+      sign (next_outward u (items_of s k.line k.frames.calls items) (remainder_of s k) (outward (setting_of s k) u (remainder_of s k))) ≡ 2
   under_sign items u under same e =
       let r = remainder_of s k in
       let m = outward (setting_of s k) u r in
-      sym (ap (λ (is : List Frame). sign (next_outward u (items_of s k.line (listed k.locals) is) r m)) same) ∙ (ap sign (sym (by_unwinding s k u under)) ∙ e)
+      sym (ap (λ (is : List Frame). sign (next_outward u (items_of s k.line k.frames.calls is) r m)) same) ∙ (ap sign (sym (by_unwinding s k u under)) ∙ e)
 
   pub undoes_here : (block : NameId) (move : Move) (u : Unwinding) → next (setting_of s k) (remainder_of s k) ≡ UndoesOnce block move → k.under_way ≡ Some u → AtOnce k.frames.items true
   undoes_here block move u e under = by k.frames.items refl
@@ -171,35 +170,35 @@ module _ (s : Script) (k : Context) where
       by [] same = let none : 0 ≡ 2 = under_sign [] u under same (ap sign e) in absurd (omega (arith, none))
       by (f ∷ fs) same =
           let r = remainder_of s k in
-          let role = role_of s (listed k.locals) f.kind in
-          let outer = items_of s f.back (below (listed k.locals) f.kind) fs in
-          let x = doing_kind s (listed k.locals) f.kind 2 (omega arith) (sym (sign_out role u outer r (outward (setting_of s k) u r)) ∙ under_sign (f ∷ fs) u under same (ap sign e)) in
+          let role = role_of s k.frames.calls f.kind in
+          let outer = items_of s f.back (below k.frames.calls f.kind) fs in
+          let x = doing_kind s k.frames.calls f.kind 2 (omega arith) (sym (sign_out role u outer r (outward (setting_of s k) u r)) ∙ under_sign (f ∷ fs) u under same (ap sign e)) in
           (f, fs, x.0, x.1, x.2, same, x.3)
 
   -- ---- the moves
 
   module _ (new : Context) (before after : List What) (scope : ℕ) (block : NameId) (good : IsGood s k) (h : HasLeft k new scope block) where
-    below_same : below (listed k.locals) h.frame.kind ≡ listed k.locals
-    below_same = ap (below (listed k.locals)) h.is_once
+    below_same : below k.frames.calls h.frame.kind ≡ k.frames.calls
+    below_same = ap (below k.frames.calls) h.is_once
 
     abbrev outer : List Item
-    outer = items_of s h.frame.back (listed k.locals) new.frames.items
+    outer = items_of s h.frame.back k.frames.calls new.frames.items
 
     -- The items, of which the innermost is the once block's.
     items_are : (remainder_of s k).items ≡ record { role = Doing scope block h.routine; inside = (line_at s k.line).left } ∷ outer
     items_are =
-        ap (items_of s k.line (listed k.locals)) h.items
-        ∙ (λ i. record { role = role_of s (listed k.locals) (h.is_once i); inside = (line_at s k.line).left } ∷ items_of s h.frame.back (below_same i) new.frames.items)
+        ap (items_of s k.line k.frames.calls) h.items
+        ∙ (λ i. record { role = role_of s k.frames.calls (h.is_once i); inside = (line_at s k.line).left } ∷ items_of s h.frame.back (below_same i) new.frames.items)
 
     left_makes : (line : What) → after ≡ before ++ line ∷ [] → Makes s (leaves outer line (remainder_of s k)) k new before after
     left_makes line w =
-        let frames = subst (AreFrames s k.line (listed k.locals)) h.items good in
+        let frames = subst (AreFrames s k.line k.frames.calls) h.items good in
         let there : Context = record k { frames = new.frames; line = h.frame.back } in
         let made : Makes s (leaves outer line (remainder_of s k)) k there before after = record {
-          to = refl;
+          to = ap (λ (cs : List (List ℤ)). record (remainder_of s k) { items = items_of s h.frame.back cs new.frames.items }) (h.calls ∙ below_same);
           lines = w;
           setting = ap (λ (z : ℕ). record (setting_of s k) { size = z }) h.size;
-          good = good_with s h.frame.back (below (listed k.locals) h.frame.kind) (listed k.locals) new.frames.items (sym below_same) frames.2;
+          good = good_with s h.frame.back (below k.frames.calls h.frame.kind) new.frames.calls new.frames.items h.calls frames.2;
         } in
         subst (λ (x : Context). Makes s (leaves outer line (remainder_of s k)) k x before after) (sym h.same) made
 

@@ -1,6 +1,5 @@
 -- Statements with an expression, once it is valued.
-use Rattle.std.proofs.Common.{◌≡◌, ◌≢◌, ℕ, ◌+◌, ◌<◌, ℤ, List, [], ◌++◌, length, Bool, true, false, if◌then◌else◌, Option, Some, None, Ok, Err, IfSome, refl, ap, sym, ◌∙◌, subst, append-nil}
-use Rattle.thr_values.specs.declared.number.NameId.{NameId}
+use Rattle.std.proofs.Common.{◌≡◌, ◌≢◌, ℕ, ◌<◌, ℤ, List, [], ◌++◌, length, Bool, true, false, if◌then◌else◌, Option, Some, None, Ok, Err, IfSome, refl, ap, sym, ◌∙◌, subst}
 use Rattle.thr_values.specs.declared.exception.Exc.{Exc}
 use Rattle.thr_values.specs.declared.history.What.{What}
 use Rattle.thr_values.specs.Exceptions.{stackovf_e}
@@ -10,7 +9,7 @@ use Rattle.thr_syntax.specs.declared.form.Form.{Form}
 use Rattle.thr_syntax.specs.declared.form.Form.TheVariants as form
 use Rattle.thr_syntax.specs.declared.tree.Script.{Script}
 use Rattle.thr_remainder.specs.Places.{Left}
-use Rattle.thr_remainder.specs.Acts.{Act, Sets, Says, Chooses, Repeats, Calls, Returns, Exits}
+use Rattle.thr_remainder.specs.Acts.{Act, Calls, Exits}
 use Rattle.thr_remainder.specs.Remainders.{Setting, Remainder, Move, Spot, has_room, place_in}
 use Rattle.thr_remainder.specs.Expressions.{Value, SharedValues, value_of}
 use Rattle.thr_remainder.specs.Starts.{raised, exited}

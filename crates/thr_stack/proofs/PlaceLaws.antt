@@ -13,8 +13,8 @@ use Rattle.thr_lines.specs.AtLines.{FormAt}
 use Rattle.thr_stack.specs.declared.frame.Frame.{Frame}
 use Rattle.thr_stack.specs.declared.context.Context.{Context}
 use Rattle.thr_stack.specs.Forms.{ends}
-use Rattle.thr_stack.specs.Sights.{listed}
-use Rattle.thr_stack.specs.Standing.{role_of, below, items_of, remainder_of, IsGood, IsLine, IsPlace, first_line}
+use Rattle.thr_stack.specs.FrameLists.{below}
+use Rattle.thr_stack.specs.Standing.{role_of, items_of, remainder_of, IsGood, IsLine, IsPlace, first_line}
 use Rattle.thr_stack.specs.Places.{IsStepLine, IsAtStep}
 use Rattle.thr_stack.proofs.Sites.{top, good_at}
 
@@ -106,8 +106,8 @@ line_of : (s : Script) (k : Context) (l : ℕ) → k.frames.items ≢ [] → fir
 line_of s k l some e =
     let t = top k some in
     let left = (line_at s k.line).left in
-    ap (λ (is : List Frame). line_in (place_in (items_of s k.line (listed k.locals) is))) t.2
-    ∙ line_inside left.todo left.close (role_of s (listed k.locals) t.0.kind) (items_of s t.0.back (below (listed k.locals) t.0.kind) t.1) ∙ ap Some e
+    ap (λ (is : List Frame). line_in (place_in (items_of s k.line k.frames.calls is))) t.2
+    ∙ line_inside left.todo left.close (role_of s k.frames.calls t.0.kind) (items_of s t.0.back (below k.frames.calls t.0.kind) t.1) ∙ ap Some e
 
 pub line_is : (s : Script) (k : Context) → k.frames.items ≢ [] → first_line (line_at s k.line).left.todo (line_at s k.line).left.close ≡ k.line → line_of_next (remainder_of s k) ≡ Some k.line
 line_is s k some e = line_of s k k.line some e
@@ -123,17 +123,17 @@ step_line s k l some line left place first = record {
 
 -- ---- another line
 
-items_same : (s : Script) (l m : ℕ) (locals : List ℤ) (fs : List Frame) → (line_at s m).left ≡ (line_at s l).left → items_of s m locals fs ≡ items_of s l locals fs
-items_same s l m locals [] e = refl
-items_same s l m locals (f ∷ fs) e = ap (λ (x : Left). record { role = role_of s locals f.kind; inside = x } ∷ items_of s f.back (below locals f.kind) fs) e
+items_same : (s : Script) (l m : ℕ) (calls : List (List ℤ)) (fs : List Frame) → (line_at s m).left ≡ (line_at s l).left → items_of s m calls fs ≡ items_of s l calls fs
+items_same s l m calls [] e = refl
+items_same s l m calls (f ∷ fs) e = ap (λ (x : Left). record { role = role_of s calls f.kind; inside = x } ∷ items_of s f.back (below calls f.kind) fs) e
 
 pub goes_to : (s : Script) (k : Context) (l : ℕ) → IsGood s k → IsStepLine s k l → IsAtStep s k (record k { line = l })
 goes_to s k l good h =
-    let to = ap (λ (is : List Item). record (remainder_of s k) { items = is }) (items_same s k.line l (listed k.locals) k.frames.items h.left) in
+    let to = ap (λ (is : List Item). record (remainder_of s k) { items = is }) (items_same s k.line l k.frames.calls k.frames.items h.left) in
     record {
       same = refl;
       to = to;
-      good = good_at s k.line l (listed k.locals) k.frames.items h.line good;
+      good = good_at s k.line l k.frames.calls k.frames.items h.line good;
       line = λ some. record { line = h.line; left = refl; place = h.place; next = ap line_of_next to ∙ h.next };
     }
 

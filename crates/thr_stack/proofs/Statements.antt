@@ -19,7 +19,6 @@ use Rattle.thr_stack.specs.declared.frame.Kind.TheVariants as kind
 use Rattle.thr_stack.specs.declared.frame.Frame.{Frame}
 use Rattle.thr_stack.specs.declared.context.Context.{Context}
 use Rattle.thr_stack.specs.FrameLists.{FramesView, caught_among}
-use Rattle.thr_stack.specs.Sights.{listed}
 use Rattle.thr_stack.specs.Standing.{remainder_of, items_of, IsGood, Stands, Makes, StepsAnyhow, set_out}
 use Rattle.thr_stack.proofs.LocalLaws.{caught_is}
 use Rattle.thr_stack.proofs.Sites.{site, spot, step_is, steps_by, good_at, some_line, has_room_is, no_room_is}
@@ -47,7 +46,7 @@ module _ (s : Script) (k : Context) (h : Stands s k) (before : List What) where
   reraises new after x a is m tells shared =
       let t = site s k _ RaisesAgain false h.some a.does in
       steps_by s k new before after tells shared _
-      (step_is s k _ RaisesAgain t tells shared ∙ ap (λ (y : Exc). raised_again y (remainder_of s k)) (caught_is s k.line (listed k.locals) k.frames.items ∙ sym is)) m
+      (step_is s k _ RaisesAgain t tells shared ∙ ap (λ (y : Exc). raised_again y (remainder_of s k)) (caught_is s k.line k.frames.calls k.frames.items ∙ sym is)) m
 
   pub asks : (call : DceCall) → StatementAt (line_at s) (last_line s) k.line (Asks call) true → StepsAnyhow s k k before before
   asks call a tells shared =
@@ -79,7 +78,7 @@ module _ (s : Script) (k : Context) (h : Stands s k) (before : List What) where
           to = record r { items = record { role = Trying (r.scopes + 1) (line_at s a.next).ways; inside = (line_at s (k.line + 1)).left } ∷ is; scopes = r.scopes + 1 };
           lines = what.Try (r.scopes + 1) (at k.line) ∷ [];
         } in
-        let rest : List Frame → List Item = λ fs. items_of s a.after (listed k.locals) fs in
+        let rest : List Frame → List Item = λ fs. items_of s a.after k.frames.calls fs in
         steps_by s k new before after tells shared (move (rest (t.frame ∷ t.outer)))
         (step_is s k _ tries_here t tells shared ∙ ap (λ (b : Bool). if b then move (rest (t.frame ∷ t.outer)) else raised stackovf_e r) (has_room_is s k room))
         (record {
@@ -89,7 +88,7 @@ module _ (s : Script) (k : Context) (h : Stands s k) (before : List What) where
           good = (
             (omega arith, omega (arith, a.below, a.above, a.inside)),
             ((omega (arith, a.below), omega (arith, a.above, a.inside)), a.way),
-            good_at s k.line a.after (listed k.locals) k.frames.items (omega (arith, a.above), a.inside) h.good,
+            good_at s k.line a.after k.frames.calls k.frames.items (omega (arith, a.above), a.inside) h.good,
           );
         })
 

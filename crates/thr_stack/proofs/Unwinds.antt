@@ -19,16 +19,15 @@ use Rattle.thr_remainder.specs.Starts.{at}
 use Rattle.thr_lines.specs.declared.row.Row.{Row}
 use Rattle.thr_lines.specs.Layout.{line_at, last_line}
 use Rattle.thr_lines.specs.AtLines.{EndsTryBody, FormAt}
-use Rattle.thr_stack.specs.declared.frame.Locals.{Locals}
 use Rattle.thr_stack.specs.declared.frame.Kind.{Kind}
 use Rattle.thr_stack.specs.declared.frame.Kind.TheVariants as kind
 use Rattle.thr_stack.specs.declared.frame.Met.TheVariants as met
 use Rattle.thr_stack.specs.declared.frame.Frame.{Frame}
 use Rattle.thr_stack.specs.declared.context.Context.{Context}
-use Rattle.thr_stack.specs.FrameLists.{FramesView}
-use Rattle.thr_stack.specs.Sights.{listed}
-use Rattle.thr_stack.specs.Standing.{IsLine, IsKind, AreFrames, IsGood, role_of, below, items_of, remainder_of, setting_of, Ends}
-use Rattle.thr_stack.specs.Unwinds.{Catching, NoCatch, GoesOut, Meets, IsDropped, HasDropped}
+use Rattle.thr_stack.specs.FrameLists.{FramesView, below}
+use Rattle.thr_stack.specs.Standing.{IsLine, IsKind, AreFrames, IsGood, role_of, items_of, remainder_of, setting_of, Ends}
+use Rattle.thr_stack.specs.Unwinds.{Catching, NoCatch, GoesOut, Meets, HasDropped}
+use Rattle.thr_stack.proofs.FitLaws.{below_no_call}
 use Rattle.thr_stack.proofs.Sites.{some_line, good_with}
 
 -- ---- the first clause that catches
@@ -135,35 +134,35 @@ module _ (s : Script) (x : Exc) (first l : ℕ) (h : IsSought s x first l) (row 
 
 -- ---- what an unwinding does at a try
 
-meets_finally : (s : Script) (scope first : ℕ) (u : Unwinding) → Ends s first true → (locals : List ℤ) → meeting s (role_of s locals (kind.Try scope first)) u ≡ Begins (Finishing scope (Some u)) (line_at s (first + 1)).left (what.Finally scope u.number)
-meets_finally s scope first u h locals = ap (λ (w : Ways). at_try s scope w u u.cause) h.1
+meets_finally : (s : Script) (scope first : ℕ) (u : Unwinding) → Ends s first true → (calls : List (List ℤ)) → meeting s (role_of s calls (kind.Try scope first)) u ≡ Begins (Finishing scope (Some u)) (line_at s (first + 1)).left (what.Finally scope u.number)
+meets_finally s scope first u h calls = ap (λ (w : Ways). at_try s scope w u u.cause) h.1
 
 pub met_finally : (s : Script) (scope first : ℕ) (u : Unwinding) → Ends s first true → Meets s (kind.Try scope first) u (met.Begins (kind.Finally scope (Some u)) (first + 1) (what.Finally scope u.number))
 unfolding meets_finally
-met_finally s scope first u h = (meets_finally s scope first u h, h.0, tt, λ locals. refl, λ locals. refl)
+met_finally s scope first u h = (meets_finally s scope first u h, h.0, tt, λ calls. refl, tt)
 
 pub met_exit : (s : Script) (scope first : ℕ) (u : Unwinding) (v : ℤ) → Ends s first false → u.cause ≡ cause.Exit v → Meets s (kind.Try scope first) u met.Drops
-met_exit s scope first u v h is locals = ap (at_try s scope (line_at s first).ways u) is ∙ ap (λ (w : Ways). at_try s scope w u (cause.Exit v)) h.1
+met_exit s scope first u v h is calls = ap (at_try s scope (line_at s first).ways u) is ∙ ap (λ (w : Ways). at_try s scope w u (cause.Exit v)) h.1
 
 pub met_none : (s : Script) (scope first : ℕ) (u : Unwinding) (x : Exc) → u.cause ≡ cause.Raised x → NoCatch s x first → Meets s (kind.Try scope first) u met.Drops
-met_none s scope first u x is h locals =
+met_none s scope first u x is h calls =
     ap (at_try s scope (line_at s first).ways u) is ∙ ap (λ (w : Ways). at_try s scope w u (cause.Raised x)) h.ways ∙ ap (caught_by scope u.number x) h.first_is
 
 pub met_catch : (s : Script) (scope first line : ℕ) (u : Unwinding) (x : Exc) → u.cause ≡ cause.Raised x → Catching s x first line →
     Meets s (kind.Try scope first) u (met.Begins (kind.Catch scope x) (line + 1) (what.Catch scope u.number (at line)))
 met_catch s scope first line u x is h = (
-  (λ locals. ap (at_try s scope (line_at s first).ways u) is ∙ ap (λ (w : Ways). at_try s scope w u (cause.Raised x)) h.ways ∙ ap (caught_by scope u.number x) h.first_is),
+  (λ calls. ap (at_try s scope (line_at s first).ways u) is ∙ ap (λ (w : Ways). at_try s scope w u (cause.Raised x)) h.ways ∙ ap (caught_by scope u.number x) h.first_is),
   h.inside,
   tt,
-  λ locals. refl,
-  λ locals. refl,
+  λ calls. refl,
+  tt,
 )
 
 -- ---- outward
 
 module _ (s : Script) (u : Unwinding) (k now : Context) (n : List What) (h : HasDropped s u k now) where
   -- The unwinding ends with this move.
-  out_by : (m : Move) (new : Context) (more : List What) → outward_from s u (items_of s now.line (listed now.locals) now.frames.items) (remainder_of s k) ≡ m → remainder_of s new ≡ m.to → more ≡ n ++ m.lines → setting_of s new ≡ setting_of s k → IsGood s new →
+  out_by : (m : Move) (new : Context) (more : List What) → outward_from s u (items_of s now.line now.frames.calls now.frames.items) (remainder_of s k) ≡ m → remainder_of s new ≡ m.to → more ≡ n ++ m.lines → setting_of s new ≡ setting_of s k → IsGood s new →
       GoesOut s u k new n more
   unfolding outward
   out_by m new more q e w t g =
@@ -174,29 +173,34 @@ module _ (s : Script) (u : Unwinding) (k now : Context) (n : List What) (h : Has
       GoesOut s u k (record now { frames = frames; under_way = None; value = v }) n more
   out_bottom more v frames none same is w =
       let r = remainder_of s k in
-      let new : Context → FramesView → Context = λ x p. record { frames = p; line = now.line; locals = now.locals; under_way = None; value = v; err = x.err; scopes = x.scopes; unwindings = x.unwindings; me = x.me } in
+      let new : Context → FramesView → Context = λ x p. record { frames = p; line = now.line; under_way = None; value = v; err = x.err; scopes = x.scopes; unwindings = x.unwindings; me = x.me } in
       let empty : frames.items ≡ [] = ap (λ (p : FramesView). p.items) same ∙ none in
       let size : frames.size ≡ k.frames.size = ap (λ (p : FramesView). p.size) same ∙ h.size in
       let moved : GoesOut s u k (new k frames) n more =
       out_by (record { to = record r { items = []; under_way = None; value = v }; lines = what.Bottom u.number v ∷ [] }) (new k frames) more
-      (ap (λ (fs : List Frame). outward_from s u (items_of s now.line (listed now.locals) fs) r) none ∙ ap (λ (z : ℤ). let m : Move = record { to = record r { items = []; under_way = None; value = z }; lines = what.Bottom u.number z ∷ [] } in m) (sym is))
-      (ap (λ (fs : List Frame). record r { items = items_of s now.line (listed now.locals) fs; under_way = None; value = v }) empty) w (ap (λ z. record (setting_of s k) { size = z }) size)
-      (subst (AreFrames s now.line (listed now.locals)) (none ∙ sym empty) h.good) in
+      (ap (λ (fs : List Frame). outward_from s u (items_of s now.line now.frames.calls fs) r) none ∙ ap (λ (z : ℤ). let m : Move = record { to = record r { items = []; under_way = None; value = z }; lines = what.Bottom u.number z ∷ [] } in m) (sym is))
+      (ap (λ (fs : List Frame). record r { items = items_of s now.line frames.calls fs; under_way = None; value = v }) empty) w (ap (λ z. record (setting_of s k) { size = z }) size)
+      (subst (λ (p : FramesView). AreFrames s now.line p.calls p.items) (sym same) h.good) in
       subst (λ (x : Context). GoesOut s u k (new x frames) n more) (sym h.same) moved
 
-  module _ (f : Frame) (frames : FramesView) (items : now.frames.items ≡ f ∷ frames.items) (size : frames.size ≡ now.frames.size) where
-    good_here : AreFrames s now.line (listed now.locals) (f ∷ frames.items)
-    good_here = subst (AreFrames s now.line (listed now.locals)) items h.good
+  module _ (f : Frame) (frames : FramesView) (items : now.frames.items ≡ f ∷ frames.items) (size : frames.size ≡ now.frames.size) (calls : frames.calls ≡ below now.frames.calls f.kind) where
+    good_here : AreFrames s now.line now.frames.calls (f ∷ frames.items)
+    good_here = subst (AreFrames s now.line now.frames.calls) items h.good
+
+    -- The frames below.
+    good_below : AreFrames s f.back frames.calls frames.items
+    unfolding good_here
+    good_below = good_with s f.back (below now.frames.calls f.kind) frames.calls frames.items calls good_here.2
 
     outer : List Item
-    outer = items_of s f.back (below (listed now.locals) f.kind) frames.items
+    outer = items_of s f.back (below now.frames.calls f.kind) frames.items
 
     met_by : Meeting → Move
-    met_by m = outward_steps.met m (record { role = role_of s (listed now.locals) f.kind; inside = (line_at s now.line).left }) outer (remainder_of s k) (outward_from s u outer (remainder_of s k))
+    met_by m = outward_steps.met m (record { role = role_of s now.frames.calls f.kind; inside = (line_at s now.line).left }) outer (remainder_of s k) (outward_from s u outer (remainder_of s k))
 
-    met_here : (m : Meeting) → meeting s (role_of s (listed now.locals) f.kind) u ≡ m → outward_from s u (items_of s now.line (listed now.locals) now.frames.items) (remainder_of s k) ≡ met_by m
+    met_here : (m : Meeting) → meeting s (role_of s now.frames.calls f.kind) u ≡ m → outward_from s u (items_of s now.line now.frames.calls now.frames.items) (remainder_of s k) ≡ met_by m
     unfolding outer met_by
-    met_here m is = ap (λ (fs : List Frame). outward_from s u (items_of s now.line (listed now.locals) fs) (remainder_of s k)) items ∙ ap met_by is
+    met_here m is = ap (λ (fs : List Frame). outward_from s u (items_of s now.line now.frames.calls fs) (remainder_of s k)) items ∙ ap met_by is
 
     whole_size : frames.size ≡ k.frames.size
     whole_size = size ∙ h.size
@@ -207,50 +211,53 @@ module _ (s : Script) (u : Unwinding) (k now : Context) (n : List What) (h : Has
 
     pub out_begins : (x : Kind) (line : ℕ) (w : What) (all : FramesView) (more : List What) → Meets s f.kind u (met.Begins x line w) → all ≡ record frames { items = record { kind = x; back = f.back } ∷ frames.items } → more ≡ n ++ w ∷ [] →
         GoesOut s u k (record now { frames = all; line = line; under_way = None }) n more
-    unfolding good_here outer met_by whole_size
+    unfolding good_below outer met_by whole_size
     out_begins x line w all more m all_is e =
         let r = remainder_of s k in
-        let new : Context → FramesView → Context = λ y p. record { frames = p; line = line; locals = now.locals; under_way = None; value = y.value; err = y.err; scopes = y.scopes; unwindings = y.unwindings; me = y.me } in
+        let new : Context → FramesView → Context = λ y p. record { frames = p; line = line; under_way = None; value = y.value; err = y.err; scopes = y.scopes; unwindings = y.unwindings; me = y.me } in
         let whole : FramesView = record frames { items = record { kind = x; back = f.back } ∷ frames.items } in
         let moved : GoesOut s u k (new k whole) n more =
-        out_by (met_by (Begins (role_of s (listed now.locals) x) (line_at s line).left w)) (new k whole) more (met_here (Begins (role_of s (listed now.locals) x) (line_at s line).left w) (m.0 (listed now.locals)))
-        (λ i. record r { items = record { role = role_of s (listed now.locals) x; inside = (line_at s line).left } ∷ items_of s f.back ((m.4 (listed now.locals) ∙ sym (m.3 (listed now.locals))) i) frames.items; under_way = None })
-        e (ap (λ z. record (setting_of s k) { size = z }) whole_size) (m.1, m.2, good_with s f.back (below (listed now.locals) f.kind) (below (listed now.locals) x) frames.items (m.4 (listed now.locals) ∙ sym (m.3 (listed now.locals))) good_here.2) in
+        out_by (met_by (Begins (role_of s now.frames.calls x) (line_at s line).left w)) (new k whole) more (met_here (Begins (role_of s now.frames.calls x) (line_at s line).left w) (m.0 now.frames.calls))
+        (λ i. record r { items = record { role = role_of s ((calls ∙ m.3 now.frames.calls) i) x; inside = (line_at s line).left } ∷ items_of s f.back ((below_no_call x m.4 frames.calls ∙ calls) i) frames.items; under_way = None })
+        e (ap (λ z. record (setting_of s k) { size = z }) whole_size) (m.1, m.2, good_with s f.back frames.calls (below frames.calls x) frames.items (below_no_call x m.4 frames.calls) good_below) in
         subst (λ (y : Context). GoesOut s u k (record y { frames = all; line = line; under_way = None }) n more) (sym h.same) (subst (λ (p : FramesView). GoesOut s u k (new k p) n more) (sym all_is) moved)
 
     pub out_loses : (w : What) (more : List What) → Meets s f.kind u (met.Loses w) → more ≡ n ++ w ∷ [] → GoesOut s u k (record now { frames = frames; line = f.back; under_way = None }) n more
-    unfolding good_here outer met_by whole_size
+    unfolding good_below outer met_by whole_size
     out_loses w more m e =
         let r = remainder_of s k in
-        let new : Context → Context = λ y. record { frames = frames; line = f.back; locals = now.locals; under_way = None; value = y.value; err = y.err; scopes = y.scopes; unwindings = y.unwindings; me = y.me } in
+        let new : Context → Context = λ y. record { frames = frames; line = f.back; under_way = None; value = y.value; err = y.err; scopes = y.scopes; unwindings = y.unwindings; me = y.me } in
         let moved : GoesOut s u k (new k) n more =
-        out_by (met_by (Loses w)) (new k) more (met_here (Loses w) (m.0 (listed now.locals)))
-        (λ i. record r { items = items_of s f.back (sym (m.1 (listed now.locals)) i) frames.items; under_way = None })
-        e (ap (λ z. record (setting_of s k) { size = z }) whole_size) (good_with s f.back (below (listed now.locals) f.kind) (listed now.locals) frames.items (sym (m.1 (listed now.locals))) good_here.2) in
+        out_by (met_by (Loses w)) (new k) more (met_here (Loses w) (m.0 now.frames.calls))
+        (λ i. record r { items = items_of s f.back (calls i) frames.items; under_way = None })
+        e (ap (λ z. record (setting_of s k) { size = z }) whole_size) good_below in
         subst (λ (y : Context). GoesOut s u k (record y { frames = frames; line = f.back; under_way = None }) n more) (sym h.same) moved
 
     pub out_undoes : (all : FramesView) → Meets s f.kind u met.Undoes → all ≡ record frames { items = f ∷ frames.items } → GoesOut s u k (record now { frames = all }) n n
     unfolding good_here outer met_by whole_size
     out_undoes all m all_is =
         let r = remainder_of s k in
-        let new : Context → FramesView → Context = λ y p. record { frames = p; line = now.line; locals = now.locals; under_way = y.under_way; value = y.value; err = y.err; scopes = y.scopes; unwindings = y.unwindings; me = y.me } in
+        let new : Context → FramesView → Context = λ y p. record { frames = p; line = now.line; under_way = y.under_way; value = y.value; err = y.err; scopes = y.scopes; unwindings = y.unwindings; me = y.me } in
         let whole : FramesView = record frames { items = f ∷ frames.items } in
+        let same : frames.calls ≡ now.frames.calls = calls ∙ below_no_call f.kind m.1 now.frames.calls in
         let moved : GoesOut s u k (new k whole) n n =
-        out_by (met_by Undoes) (new k whole) n (met_here Undoes (m (listed now.locals))) refl (sym (append-nil n)) (ap (λ z. record (setting_of s k) { size = z }) whole_size) good_here in
+        out_by (met_by Undoes) (new k whole) n (met_here Undoes (m.0 now.frames.calls))
+        (ap (λ (cs : List (List ℤ)). remainder_of s (new k (record whole { calls = cs }))) same) (sym (append-nil n)) (ap (λ z. record (setting_of s k) { size = z }) whole_size)
+        (good_with s now.line now.frames.calls frames.calls (f ∷ frames.items) same good_here) in
         subst (λ (y : Context). GoesOut s u k (record y { frames = all }) n n) (sym h.same) (subst (λ (p : FramesView). GoesOut s u k (new k p) n n) (sym all_is) moved)
 
-    pub out_drops : (new : Context) → Meets s f.kind u met.Drops → IsDropped (record now { frames = frames }) new f → HasDropped s u k new
-    unfolding good_here outer met_by whole_size
-    out_drops new m d =
+    pub out_drops : Meets s f.kind u met.Drops → HasDropped s u k (record now { frames = frames; line = f.back })
+    unfolding good_below outer met_by whole_size
+    out_drops m =
         let r = remainder_of s k in
-        let there : Context → Locals → Context = λ y ls. record { frames = frames; line = f.back; locals = ls; under_way = y.under_way; value = y.value; err = y.err; scopes = y.scopes; unwindings = y.unwindings; me = y.me } in
-        let moved : (ls : Locals) → listed ls ≡ below (listed now.locals) f.kind → HasDropped s u k (there k ls) = λ ls e. record {
+        let there : Context → Context = λ y. record { frames = frames; line = f.back; under_way = y.under_way; value = y.value; err = y.err; scopes = y.scopes; unwindings = y.unwindings; me = y.me } in
+        let moved : HasDropped s u k (there k) = record {
           same = refl;
           size = whole_size;
-          good = good_with s f.back (below (listed now.locals) f.kind) (listed ls) frames.items e good_here.2;
-          goes = ap (λ (l : List ℤ). outward_from s u (items_of s f.back l frames.items) r) e ∙ sym (met_here Drops (m (listed now.locals))) ∙ h.goes;
+          good = good_below;
+          goes = ap (λ (cs : List (List ℤ)). outward_from s u (items_of s f.back cs frames.items) r) calls ∙ sym (met_here Drops (m now.frames.calls)) ∙ h.goes;
         } in
-        subst (HasDropped s u k) (sym (d.same ∙ ap (λ (y : Context). there y new.locals) h.same)) (moved new.locals d.locals)
+        subst (λ (y : Context). HasDropped s u k (there y)) (sym h.same) moved
 
 pub dropped_none : (s : Script) (u : Unwinding) (k : Context) → IsGood s k → HasDropped s u k k
 dropped_none s u k g = record { same = refl; size = refl; good = g; goes = refl }

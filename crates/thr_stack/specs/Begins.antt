@@ -8,7 +8,6 @@ use Rattle.thr_remainder.specs.Starts.{begins}
 use Rattle.thr_stack.specs.declared.frame.Kind.{Kind}
 use Rattle.thr_stack.specs.declared.frame.Kind.TheVariants as kind
 use Rattle.thr_stack.specs.declared.context.Context.{Context}
-use Rattle.thr_stack.specs.Sights.{listed}
 use Rattle.thr_stack.specs.Standing.{Makes, role_of, remainder_of}
 
 -- The frame is that of a once block or of a key (docs/machine.md, "What is left to do").
@@ -19,4 +18,4 @@ IsScope _ = ⊥
 
 -- A scope of this kind was opened, in which this routine runs with this argument (docs/machine.md, "Once blocks" and "Keys").
 abbrev pub Begins : Script → Kind → NameId → ℤ → What → (old new : Context) → (before after : List What) → Type 0
-Begins s x routine n line old new before after = Makes s (begins (entry_of s routine) (role_of s (listed old.locals) x) n line (remainder_of s old)) old new before after
+Begins s x routine n line old new before after = Makes s (begins (entry_of s routine) (role_of s old.frames.calls x) n line (remainder_of s old)) old new before after

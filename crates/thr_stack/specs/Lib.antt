@@ -1,4 +1,5 @@
 pub mod FrameLists
+pub mod LocalLists
 pub mod Sights
 pub mod Forms
 pub mod Standing

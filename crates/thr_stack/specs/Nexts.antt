@@ -1,5 +1,5 @@
 -- What is next where a context stands.
-use Rattle.std.specs.Prelude.{◌≡◌, ◌≢◌, ℕ, [], Some}
+use Rattle.std.specs.Prelude.{◌≡◌, ◌≢◌, [], Some}
 use Rattle.thr_values.specs.declared.number.NameId.{NameId}
 use Rattle.thr_syntax.specs.declared.tree.Script.{Script}
 use Rattle.thr_remainder.specs.Remainders.{Spot, Move, At, place_in}

@@ -1,14 +1,9 @@
 -- What an expression sees of a thread.
-use Rattle.std.specs.Prelude.{ℤ, pos, List, take, slice_get, unwrap_or}
+use Rattle.std.specs.Prelude.{ℤ, pos, List, slice_get, unwrap_or}
 use Rattle.thr_syntax.specs.declared.tree.Script.{Script}
 use Rattle.thr_remainder.specs.Expressions.{SharedValues, Sight}
-use Rattle.thr_stack.specs.declared.frame.Locals.{Locals}
 use Rattle.thr_stack.specs.declared.context.Context.{Context}
-use Rattle.thr_stack.specs.FrameLists.{caught_among}
-
--- The parameter and locals, in their order (docs/machine.md, "Routines").
-abbrev pub listed : Locals → List ℤ
-listed l = take l.count l.values
+use Rattle.thr_stack.specs.FrameLists.{caught_among, innermost}
 
 -- The values of shared variables by their places; a name past the end has 0 (docs/machine.md, "Shared statements").
 abbrev pub shared_of : List ℤ → SharedValues
@@ -19,7 +14,7 @@ abbrev pub seen : Script → Context → SharedValues → Sight
 seen s k shared = record {
   script = s;
   me = k.me;
-  locals = listed k.locals;
+  locals = innermost k.frames.calls;
   caught = caught_among k.frames.items;
   err = k.err;
   shared = shared;

@@ -1,5 +1,5 @@
 -- What a context stands for: what is left to do, given the script whose lines it stands on (docs/machine.md, "What is left to do").
-use Rattle.std.specs.Prelude.{◌≡◌, ◌≢◌, ℕ, ◌+◌, ◌<◌, ◌≤◌, ◌^◌, ℤ, List, [], ◌∷◌, ◌++◌, length, slice_set, Bool, true, false, Option, Some, None}
+use Rattle.std.specs.Prelude.{◌≡◌, ◌≢◌, ℕ, ◌+◌, ◌<◌, ◌≤◌, ◌^◌, ℤ, List, [], ◌∷◌, ◌++◌, length, Bool, true, false, Option, Some, None}
 use Rattle.thr_values.specs.declared.number.NameId.{NameId}
 use Rattle.thr_values.specs.declared.history.What.{What}
 use Rattle.thr_syntax.specs.declared.expr.Expr.{Expr}
@@ -19,38 +19,29 @@ use Rattle.thr_stack.specs.declared.frame.Kind.{Kind}
 use Rattle.thr_stack.specs.declared.frame.Kind.TheVariants as kind
 use Rattle.thr_stack.specs.declared.frame.Frame.{Frame}
 use Rattle.thr_stack.specs.declared.context.Context.{Context}
-use Rattle.thr_stack.specs.Sights.{listed}
+use Rattle.thr_stack.specs.FrameLists.{innermost, below, set_in}
 
 -- ---- items
 
--- The item that a frame is, where these are the locals of the innermost call (docs/machine.md, "What is left to do").
-abbrev pub role_of : Script → List ℤ → Kind → Role
-role_of s locals (kind.Call place saved) = Calling locals place
-role_of s locals (kind.Try scope first) = Trying scope (line_at s first).ways
-role_of s locals (kind.Catch scope caught) = Catching scope caught
-role_of s locals (kind.Finally scope pending) = Finishing scope pending
-role_of s locals (kind.Once scope block routine) = Doing scope block routine
-role_of s locals (kind.Barrier scope key routine) = Barrier scope key routine
+-- The item that a frame is, where these are the locals of the calls (docs/machine.md, "What is left to do").
+abbrev pub role_of : Script → List (List ℤ) → Kind → Role
+role_of s calls (kind.Call place count) = Calling (innermost calls) place
+role_of s calls (kind.Try scope first) = Trying scope (line_at s first).ways
+role_of s calls (kind.Catch scope caught) = Catching scope caught
+role_of s calls (kind.Finally scope pending) = Finishing scope pending
+role_of s calls (kind.Once scope block routine) = Doing scope block routine
+role_of s calls (kind.Barrier scope key routine) = Barrier scope key routine
 
--- The locals below a frame: those that a call has saved (docs/machine.md, "Routines").
-abbrev pub below : List ℤ → Kind → List ℤ
-below locals (kind.Call place saved) = listed saved
-below locals (kind.Try scope first) = locals
-below locals (kind.Catch scope caught) = locals
-below locals (kind.Finally scope pending) = locals
-below locals (kind.Once scope block routine) = locals
-below locals (kind.Barrier scope key routine) = locals
-
--- Frames as items: the innermost goes on at this line, with these locals (docs/machine.md, "What is left to do").
-abbrev pub items_of : Script → ℕ → List ℤ → List Frame → List Item
-items_of s line locals [] = []
-items_of s line locals (f ∷ frames) =
-    record { role = role_of s locals f.kind; inside = (line_at s line).left } ∷ items_of s f.back (below locals f.kind) frames
+-- Frames as items: the innermost goes on at this line, and these are the locals of the calls (docs/machine.md, "What is left to do").
+abbrev pub items_of : Script → ℕ → List (List ℤ) → List Frame → List Item
+items_of s line calls [] = []
+items_of s line calls (f ∷ frames) =
+    record { role = role_of s calls f.kind; inside = (line_at s line).left } ∷ items_of s f.back (below calls f.kind) frames
 
 -- What a context stands for (docs/machine.md, "What is left to do").
 abbrev pub remainder_of : Script → Context → Remainder
 remainder_of s k = record {
-  items = items_of s k.line (listed k.locals) k.frames.items;
+  items = items_of s k.line k.frames.calls k.frames.items;
   under_way = k.under_way;
   value = k.value;
   err = k.err;
@@ -75,13 +66,13 @@ IsKind s _ = Unit {0}
 
 -- Each line of the frames is one of the script, and below the outermost frame there are no locals (docs/machine.md,
 -- "Routines").
-abbrev pub AreFrames : Script → ℕ → List ℤ → List Frame → Type 0
-AreFrames s line locals [] = locals ≡ []
-AreFrames s line locals (f ∷ frames) = IsLine s line × IsKind s f.kind × AreFrames s f.back (below locals f.kind) frames
+abbrev pub AreFrames : Script → ℕ → List (List ℤ) → List Frame → Type 0
+AreFrames s line calls [] = calls ≡ []
+AreFrames s line calls (f ∷ frames) = IsLine s line × IsKind s f.kind × AreFrames s f.back (below calls f.kind) frames
 
 -- The context stands on the lines of this script.
 abbrev pub IsGood : Script → Context → Type 0
-IsGood s k = AreFrames s k.line (listed k.locals) k.frames.items
+IsGood s k = AreFrames s k.line k.frames.calls k.frames.items
 
 -- The same, and a frame is left.
 pub record Stands (s : Script) (k : Context) : Type 0 where
@@ -133,10 +124,10 @@ CanCall s = (l : ℕ) (name : NameId) (e : Expr) (place : Option ℕ) → (line_
 abbrev pub set_out : Cause → Context → Context
 set_out cause k = record k { under_way = Some (record { number = k.unwindings + 1; cause = cause }); unwindings = k.unwindings + 1 }
 
--- Locals where the one at the place for it has this value (docs/machine.md, "Routines").
-abbrev pub stored_list : Option ℕ → ℤ → List ℤ → List ℤ
-stored_list None n locals = locals
-stored_list (Some p) n locals = slice_set locals p n
+-- Locals where the one of the innermost call at the place for it has this value (docs/machine.md, "Routines").
+abbrev pub stored_calls : Option ℕ → ℤ → List (List ℤ) → List (List ℤ)
+stored_calls None n calls = calls
+stored_calls (Some p) n calls = set_in calls p n
 
 -- The kept value once a call above these frames has returned (docs/machine.md, "Routines").
 abbrev pub kept_by : List Frame → ℤ → ℤ → ℤ

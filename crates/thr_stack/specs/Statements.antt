@@ -1,5 +1,5 @@
 -- Statements with an expression, once it is valued.
-use Rattle.std.specs.Prelude.{◌≡◌, ℕ, ◌+◌, ℤ, List, ◌∷◌, Bool, true, false, if◌then◌else◌, Option, Some, None, Err}
+use Rattle.std.specs.Prelude.{◌≡◌, ℕ, ◌+◌, ℤ, List, ◌∷◌, Bool, true, false, if◌then◌else◌, Option, Some, Err}
 use Rattle.thr_values.specs.declared.number.NameId.{NameId}
 use Rattle.thr_values.specs.declared.history.What.{What}
 use Rattle.thr_values.specs.Exceptions.{stackovf_e}
@@ -7,21 +7,18 @@ use Rattle.thr_syntax.specs.declared.expr.Expr.{Expr}
 use Rattle.thr_syntax.specs.declared.form.Form.{Form}
 use Rattle.thr_syntax.specs.declared.form.Form.TheVariants as form
 use Rattle.thr_syntax.specs.declared.tree.Script.{Script}
-use Rattle.thr_remainder.specs.Acts.{Act, Sets, Says, Chooses, Repeats, Calls, Returns, Exits}
 use Rattle.thr_remainder.specs.Declarations.{routine_of}
 use Rattle.thr_remainder.specs.Declarations as declarations
 use Rattle.thr_remainder.specs.Remainders.{Setting, Remainder, Move, Place, At, place_in, act_at, has_room}
 use Rattle.thr_remainder.specs.Expressions.{Value, SharedValues, value_of}
-use Rattle.thr_remainder.specs.Starts.{still, first_locals}
+use Rattle.thr_remainder.specs.Starts.{still}
 use Rattle.thr_remainder.specs.Steps.{after, valued, place_for}
 use Rattle.thr_lines.specs.Layout.{line_at, last_line}
 use Rattle.thr_lines.specs.AtLines.{BodyAt}
-use Rattle.thr_stack.specs.declared.frame.Locals.{Locals}
-use Rattle.thr_stack.specs.declared.frame.Kind.{Kind}
 use Rattle.thr_stack.specs.declared.frame.Frame.{Frame}
 use Rattle.thr_stack.specs.declared.context.Context.{Context}
-use Rattle.thr_stack.specs.Sights.{listed}
-use Rattle.thr_stack.specs.Standing.{Makes, IsGood, setting_of, remainder_of, stored_list, kept_by, below, role_of}
+use Rattle.thr_stack.specs.FrameLists.{below, HasCalled}
+use Rattle.thr_stack.specs.Standing.{Makes, IsGood, setting_of, remainder_of, stored_calls, kept_by, role_of}
 
 -- The value with which a statement goes on, or what is raised in its place. Whether a frame fits is asked first, where the
 -- statement needs one (docs/machine.md, "Frames").
@@ -60,23 +57,23 @@ IsCarried (form.Call r e place) = Unit {0}
 IsCarried (form.Return e) = Unit {0}
 IsCarried _ = ⊥
 
--- The context goes on at the body of this routine, with this argument (docs/machine.md, "Routines").
-pub record IsEntered (s : Script) (name : NameId) (n : ℤ) (old new : Context) : Type 0 where
+-- A call inside all others goes on at the body of this routine, with this argument (docs/machine.md, "Routines").
+pub record IsEntered (s : Script) (name : NameId) (place : Option ℕ) (back : ℕ) (n : ℤ) (old new : Context) : Type 0 where
   pub entry : declarations.Entry
   pub routine : routine_of s name ≡ Some entry
   pub body : BodyAt (line_at s) (last_line s) entry
-  pub same : new ≡ record old { line = entry.line + entry.locals; locals = new.locals }
-  pub locals : listed new.locals ≡ first_locals entry.locals n
+  pub called : HasCalled place back entry.locals n old.frames new.frames
+  pub same : new ≡ record old { frames = new.frames; line = entry.line + entry.locals }
 
 -- A call has returned this value to the line `back`, where its frame is off (docs/machine.md, "Routines").
-pub record IsReturned (old new : Context) (place : Option ℕ) (saved : Locals) (back : ℕ) (n : ℤ) : Type 0 where
-  pub same : new ≡ record old { line = back; locals = new.locals; value = kept_by old.frames.items n old.value }
-  pub stored : listed new.locals ≡ stored_list place n (listed saved)
+abbrev pub IsReturned : (old new : Context) → (place : Option ℕ) → (back : ℕ) → ℤ → Type 0
+IsReturned old new place back n =
+    new ≡ record old { frames = record old.frames { calls = stored_calls place n old.frames.calls }; line = back; value = kept_by old.frames.items n old.value }
 
 -- The innermost frame is off, and its call has returned this value (docs/machine.md, "Routines").
 pub record HasReturned (n : ℤ) (old new : Context) : Type 0 where
   pub frame : Frame
   pub items : old.frames.items ≡ frame ∷ new.frames.items
   pub size : new.frames.size ≡ old.frames.size
-  pub same : new ≡ record old { frames = new.frames; line = frame.back; locals = new.locals; value = kept_by new.frames.items n old.value }
-  pub locals : (s : Script) → listed new.locals ≡ stored_list (place_for (role_of s (listed old.locals) frame.kind)) n (below (listed old.locals) frame.kind)
+  pub same : new ≡ record old { frames = new.frames; line = frame.back; value = kept_by new.frames.items n old.value }
+  pub calls : (s : Script) → new.frames.calls ≡ stored_calls (place_for (role_of s old.frames.calls frame.kind)) n (below old.frames.calls frame.kind)

@@ -9,12 +9,11 @@ use Rattle.thr_remainder.specs.Places.{Handler, Catches}
 use Rattle.thr_remainder.specs.Outward.{first_catch, Drops, Begins, Undoes, Loses, meeting, outward_from, outward}
 use Rattle.thr_lines.specs.Layout.{line_at}
 use Rattle.thr_stack.specs.declared.frame.Kind.{Kind}
-use Rattle.thr_stack.specs.declared.frame.Frame.{Frame}
 use Rattle.thr_stack.specs.declared.frame.Met.{Met}
 use Rattle.thr_stack.specs.declared.frame.Met.TheVariants as met
 use Rattle.thr_stack.specs.declared.context.Context.{Context}
-use Rattle.thr_stack.specs.Sights.{listed}
-use Rattle.thr_stack.specs.Standing.{IsLine, IsKind, AreFrames, Makes, role_of, below, items_of, setting_of, remainder_of}
+use Rattle.thr_stack.specs.FrameLists.{IsNoCall, below}
+use Rattle.thr_stack.specs.Standing.{IsLine, IsKind, AreFrames, Makes, role_of, items_of, setting_of, remainder_of}
 
 -- The clause at this line is the first of the try that catches, or none does, or the try has no catch clauses.
 pub record Catching (s : Script) (x : Exc) (first line : ℕ) : Type 0 where
@@ -35,21 +34,16 @@ GoesOut s u old new before after = Makes s (outward (setting_of s old) u (remain
 
 -- What an unwinding does at a frame is what it does at the item that the frame is.
 abbrev pub Meets : Script → Kind → Unwinding → Met → Type 0
-Meets s k u met.Drops = (locals : List ℤ) → meeting s (role_of s locals k) u ≡ Drops
+Meets s k u met.Drops = (calls : List (List ℤ)) → meeting s (role_of s calls k) u ≡ Drops
 Meets s k u (met.Begins new line w) =
-    ((locals : List ℤ) → meeting s (role_of s locals k) u ≡ Begins (role_of s locals new) (line_at s line).left w) × IsLine s line × IsKind s new
-    × ((locals : List ℤ) → below locals k ≡ locals) × ((locals : List ℤ) → below locals new ≡ locals)
-Meets s k u met.Undoes = (locals : List ℤ) → meeting s (role_of s locals k) u ≡ Undoes
-Meets s k u (met.Loses w) = ((locals : List ℤ) → meeting s (role_of s locals k) u ≡ Loses w) × ((locals : List ℤ) → below locals k ≡ locals)
-
--- A frame was taken off: the context goes on below it, with the locals there.
-pub record IsDropped (old new : Context) (f : Frame) : Type 0 where
-  pub same : new ≡ record old { line = f.back; locals = new.locals }
-  pub locals : listed new.locals ≡ below (listed old.locals) f.kind
+    ((calls : List (List ℤ)) → meeting s (role_of s calls k) u ≡ Begins (role_of s calls new) (line_at s line).left w) × IsLine s line × IsKind s new
+    × ((calls : List (List ℤ)) → below calls k ≡ calls) × IsNoCall new
+Meets s k u met.Undoes = ((calls : List (List ℤ)) → meeting s (role_of s calls k) u ≡ Undoes) × IsNoCall k
+Meets s k u (met.Loses w) = ((calls : List (List ℤ)) → meeting s (role_of s calls k) u ≡ Loses w) × ((calls : List (List ℤ)) → below calls k ≡ calls)
 
 -- So far the unwinding has dropped frames.
 pub record HasDropped (s : Script) (u : Unwinding) (old now : Context) : Type 0 where
-  pub same : now ≡ record old { frames = now.frames; line = now.line; locals = now.locals }
+  pub same : now ≡ record old { frames = now.frames; line = now.line }
   pub size : now.frames.size ≡ old.frames.size
-  pub good : AreFrames s now.line (listed now.locals) now.frames.items
-  pub goes : outward_from s u (items_of s now.line (listed now.locals) now.frames.items) (remainder_of s old) ≡ outward_from s u (remainder_of s old).items (remainder_of s old)
+  pub good : AreFrames s now.line now.frames.calls now.frames.items
+  pub goes : outward_from s u (items_of s now.line now.frames.calls now.frames.items) (remainder_of s old) ≡ outward_from s u (remainder_of s old).items (remainder_of s old)

@@ -39,15 +39,8 @@ fn begin(
         kind,
         back: context.line,
     });
-    context.frames.push(Frame {
-        kind: Kind::Call {
-            place: None,
-            saved: context.locals,
-        },
-        back: close,
-    });
     context.scopes += 1;
-    enter_routine(lines, context, routine, n);
+    enter_routine(lines, context, routine, None, close, n);
     notes.push(what);
 }
 

@@ -1,16 +1,13 @@
 //! What a thread has still to do, as frames over the lines of its script.
 
-use crate::frame::Locals;
 use crate::frames::Frames;
 use thr_remainder::unwinding::Unwinding;
 
-/// The frames of a thread with the locals of its innermost call and the line where its innermost frame goes on
-/// (docs/machine.md, "What is left to do").
+/// The frames of a thread, with the line where the innermost goes on (docs/machine.md, "What is left to do").
 #[derive(Drop)]
 pub struct Context {
     pub frames: Frames,
     pub line: u32,
-    pub locals: Locals,
     pub under_way: Option<Unwinding>,
     /// What is kept for the thread's end.
     pub value: i64,

@@ -5,20 +5,13 @@ use thr_values::exception::Exc;
 use thr_values::history::What;
 use thr_values::number::NameId;
 
-/// The parameter and locals of a routine, the parameter first. There are at most 16.
-#[derive(Clone, Copy)]
-pub struct Locals {
-    pub values: [i64; 16],
-    pub count: u8,
-}
-
 /// What a frame is of (docs/machine.md, "Frames").
 #[derive(Clone, Copy)]
 pub enum Kind {
-    /// A call: the local of its caller that takes the value, and the caller's locals.
+    /// A call: the local of its caller that takes the value, and how many locals the caller has.
     Call {
         place: Option<u8>,
-        saved: Locals,
+        count: u8,
     },
     /// A try in its body, whose clauses begin at the line `first`.
     Try {

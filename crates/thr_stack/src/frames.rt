@@ -1,42 +1,51 @@
-//! The frames of a stack.
+//! The frames of a stack, with the locals of its calls.
 
-ghost use Rattle.std.specs.Prelude.{List, ◌≡◌, ◌+◌, ◌<◌, ◌≤◌, ◌↔◌, [], ◌∷◌, length, IfOk, IsTrue, IfSome, IfNone, MatchOption};
+ghost use Rattle.std.specs.Prelude.{List, ◌≡◌, ◌+◌, ◌<◌, ◌≤◌, ◌^◌, ◌↔◌, [], ◌∷◌, length, pos, slice_get, unwrap_or, IfOk, IsTrue, IfSome, IfNone, MatchOption};
 ghost use Rattle.thr_stack.specs.declared.frame.Frame.{Frame};
-ghost use Rattle.thr_stack.specs.FrameLists.{caught_among, AtOnce};
+ghost use Rattle.thr_stack.specs.FrameLists.{caught_among, innermost, below, set_in, AtOnce, HasCalled, IsNoCall};
 
 use crate::frame::{Frame, Kind};
+use crate::locals::Locals;
 use std::alloc::{AllocError, Global};
 use std::marker::Model;
 use thr_values::exception::{CANCEL_E, Exc};
 
-/// Frames, the innermost first. At most `size` of them fit, and there is room for `most`.
+/// The most locals that a routine has, its parameter among them.
+const MOST_LOCALS: usize = 16;
+
+/// Frames, the innermost first, and the locals of their calls. At most `size` of them fit, and there is room for `most`.
 #[derive(Drop)]
 pub struct Frames {
     frames: Vec<Frame>,
+    locals: Locals,
     size: usize,
     most: usize,
 }
 
 impl Model for Frames {
-    ghost use Rattle.std.specs.Prelude.{List, ◌≤◌, length, reverse};
+    ghost use Rattle.std.specs.Prelude.{List, ◌≤◌, ◌*◌, length, reverse};
     ghost use Rattle.std.specs.Vec.{vec_capacity};
     ghost use Rattle.thr_stack.specs.FrameLists.{FramesView};
+    ghost use Rattle.thr_stack.specs.LocalLists.{calls_of, FitsAll};
 
     ghost Value = { FramesView };
 
-    ghost view = { λ a. record { items = reverse a.frames.items; size = a.size; most = a.most } };
+    ghost view = { λ a. record { items = reverse a.frames.items; calls = calls_of a.locals (reverse a.frames.items); size = a.size; most = a.most } };
 
-    ghost invariant = { λ a. (length a.frames.items ≤ a.size) × (a.size ≤ a.most) × (a.most ≤ vec_capacity a.frames) };
+    ghost invariant = { λ a. (length a.frames.items ≤ a.size) × (a.size ≤ a.most) × (a.most ≤ vec_capacity a.frames) × (16 * a.most ≤ a.locals.most) × FitsAll a.locals (reverse a.frames.items) };
 }
 
 impl Frames {
     /// No frame, with room for `size`.
     pub fn new(alloc: Global, size: usize) -> Result<Frames, AllocError>
-        ensures { IfOk result (λ frames. frames ≡ record { items = []; size = size; most = size }) }
+        requires { size < 2 ^ 32 }
+        ensures { IfOk result (λ frames. frames ≡ record { items = []; calls = []; size = size; most = size }) }
     {
         let frames = Vec::with_capacity(alloc, size)?;
+        let locals = Locals::new(alloc, MOST_LOCALS * size)?;
         Ok(Frames {
             frames,
+            locals,
             size,
             most: size,
         })
@@ -93,29 +102,68 @@ impl Frames {
         self.frames.last()
     }
 
-    /// Puts a frame inside all others.
+    /// Puts a frame that is no call's inside all others.
     pub fn push(&mut self, frame: Frame)
-        requires { length self.old.items < self.old.size }
+        requires room { length self.old.items < self.old.size }
+        requires no_call { IsNoCall frame.kind }
         ensures { self.new ≡ record self.old { items = frame ∷ self.old.items } }
     {
         self.frames.push_reserved(frame);
     }
 
-    /// Takes the innermost frame off.
+    /// Puts the frame of a call inside all others. Its routine has so many locals, and this argument for its parameter.
+    pub fn call(&mut self, place: Option<u8>, back: u32, count: u8, n: i64)
+        requires few { count ≤ 16 }
+        requires room { length self.old.items < self.old.size }
+        ensures { HasCalled place back count n self.old self.new }
+    {
+        let kind = Kind::Call {
+            place,
+            count: self.locals.count() as u8,
+        };
+        self.frames.push_reserved(Frame { kind, back });
+        self.locals.open(count, n);
+    }
+
+    /// The local of the innermost call at this place, and 0 where there is none.
+    #[inline(always)]
+    pub fn local(&self, p: u8) -> i64
+        ensures { result ≡ unwrap_or (slice_get (innermost self.now.calls) p) (pos 0) }
+    {
+        self.locals.get(p)
+    }
+
+    /// Sets the local of the innermost call at this place, if there is one.
+    #[inline(always)]
+    pub fn set_local(&mut self, p: u8, n: i64)
+        ensures { self.new ≡ record self.old { calls = set_in self.old.calls p n } }
+    {
+        self.locals.set(p, n);
+    }
+
+    /// Takes the innermost frame off, with the locals of its call.
     pub fn pop(&mut self) -> Option<Frame>
         ensures none { IfNone result ((self.old.items ≡ []) × (self.new ≡ self.old)) }
         ensures some { IfSome result (λ frame. self.old.items ≡ frame ∷ self.new.items) }
+        ensures calls { IfSome result (λ frame. self.new.calls ≡ below self.old.calls frame.kind) }
         ensures size { self.new.size ≡ self.old.size }
         ensures room { IfSome result (λ _. length self.new.items < self.new.size) }
     {
-        self.frames.pop()
+        let Some(frame) = self.frames.pop() else {
+            return None;
+        };
+        if let Kind::Call { count, .. } = frame.kind {
+            self.locals.close(count);
+        }
+        Some(frame)
     }
 
-    /// Takes all frames off.
+    /// Takes all frames off, with the locals of their calls.
     pub fn clear(&mut self)
-        ensures { self.new ≡ record self.old { items = [] } }
+        ensures { self.new ≡ record self.old { items = []; calls = [] } }
     {
         self.frames.clear();
+        self.locals.clear();
     }
 
     /// What the innermost catch body of the innermost call has caught, or `cancel_e` where there is none.

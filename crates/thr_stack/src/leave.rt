@@ -39,7 +39,7 @@ pub fn leave(lines: &Lines, context: &mut Context, notes: &mut Notes)
         unreachable!()
     };
     match frame.kind {
-        Kind::Call { place, saved } => return_to(context, place, saved, frame.back, 0),
+        Kind::Call { place, .. } => return_to(context, place, frame.back, 0),
         Kind::Try { scope, first } => {
             if is_finally(lines, first) {
                 context.frames.push(Frame {

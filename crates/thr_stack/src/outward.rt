@@ -6,7 +6,7 @@ ghost use Rattle.thr_lines.specs.AtLines.{EndsTryBody};
 ghost use Rattle.thr_lines.specs.Layout.{line_at, last_line};
 ghost use Rattle.thr_stack.specs.declared.frame.Kind.TheVariants as kind;
 ghost use Rattle.thr_stack.specs.Standing.{IsGood, IsKind, Ends};
-ghost use Rattle.thr_stack.specs.Unwinds.{Catching, NoCatch, GoesOut, Meets, IsDropped};
+ghost use Rattle.thr_stack.specs.Unwinds.{Catching, NoCatch, GoesOut, Meets};
 
 use crate::compute::same;
 use crate::context::Context;
@@ -98,16 +98,6 @@ fn meet(lines: &Lines, kind: Kind, u: Unwinding) -> Met
     }
 }
 
-/// Goes on below a frame that was taken off.
-fn drop_frame(context: &mut Context, frame: &Frame)
-    ensures { IsDropped context.old context.new frame.now }
-{
-    context.line = frame.back;
-    if let Kind::Call { saved, .. } = frame.kind {
-        context.locals = saved;
-    }
-}
-
 /// An unwinding that is under way goes outward until a body begins, it is lost, it comes to a once block, or no frame is
 /// left.
 #[inline(never)]
@@ -119,7 +109,7 @@ pub fn settle(lines: &Lines, context: &mut Context, notes: &mut Notes, u: Unwind
 {
     'out: while let Some(frame) = context.frames.pop() {
         match meet(lines, frame.kind, u) {
-            Met::Drops => drop_frame(context, &frame),
+            Met::Drops => context.line = frame.back,
             Met::Begins(kind, line, what) => {
                 context.frames.push(Frame {
                     kind,

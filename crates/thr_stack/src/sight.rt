@@ -46,7 +46,7 @@ impl<'a> Sight<'a> {
         ensures { result ≡ variable_value (seen self.now.lines.now self.now.context.now (shared_of self.now.shared.now)) v }
     {
         match v {
-            Var::Local(p) => self.context.locals.get(p),
+            Var::Local(p) => self.context.frames.local(p),
             Var::Shared(name) => match self.shared.get(name.0 as usize) {
                 Some(n) => *n,
                 None => 0,

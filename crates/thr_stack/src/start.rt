@@ -5,7 +5,6 @@ ghost use Rattle.thr_remainder.specs.Starts.{fresh};
 ghost use Rattle.thr_stack.specs.Standing.{IsGood, IsRoutine, remainder_of, setting_of};
 
 use crate::context::Context;
-use crate::frame::{Frame, Kind, Locals};
 use crate::valued::enter_routine;
 use thr_lines::lines::Lines;
 use thr_values::number::NameId;
@@ -19,17 +18,10 @@ pub fn start(lines: &Lines, context: &mut Context, routine: NameId, arg: i64)
     ensures setting { setting_of lines.now context.new ≡ setting_of lines.now context.old }
     ensures good { IsGood lines.now context.new }
 {
-    context.frames.push(Frame {
-        kind: Kind::Call {
-            place: None,
-            saved: Locals::first(0, 0),
-        },
-        back: 0,
-    });
     context.under_way = None;
     context.value = 0;
     context.err = 0;
     context.scopes = 0;
     context.unwindings = 0;
-    enter_routine(lines, context, routine, arg);
+    enter_routine(lines, context, routine, None, 0, arg);
 }

@@ -13,7 +13,7 @@ ghost use Rattle.thr_stack.specs.Statements.{outcome, Carries, GoesOn, IsCarried
 use crate::compute::is_true;
 use crate::context::Context;
 use crate::forms::{needs_frame, tell, write_of};
-use crate::frame::{Frame, Kind, Locals};
+use crate::frame::Kind;
 use crate::notes::Notes;
 use crate::raise::{exit, raise};
 use crate::sight::value;
@@ -45,16 +45,24 @@ fn outcome(
     value(lines, context, e, shared)
 }
 
-/// Goes on at the body of a routine, with this argument.
+/// Calls a routine with this argument. Its value goes to the local at `place`, and its caller goes on at the line `back`.
 #[inline(never)]
-pub fn enter_routine(lines: &Lines, context: &mut Context, name: NameId, n: i64)
-    requires { IsRoutine lines.now name }
-    ensures { IsEntered lines.now name n context.old context.new }
+pub fn enter_routine(
+    lines: &Lines,
+    context: &mut Context,
+    name: NameId,
+    place: Option<u8>,
+    back: u32,
+    n: i64,
+)
+    requires routine { IsRoutine lines.now name }
+    requires room { length context.old.frames.items < context.old.frames.size }
+    ensures { IsEntered lines.now name place back n context.old context.new }
 {
     match lines.start(name) {
         Some(start) => {
             let count = (start.body.0 - start.line.0) as u8;
-            context.locals = Locals::first(count, n);
+            context.frames.call(place, back, count, n);
             context.line = start.body.0;
         }
         None => unreachable!(),
@@ -62,16 +70,15 @@ pub fn enter_routine(lines: &Lines, context: &mut Context, name: NameId, n: i64)
 }
 
 /// A call whose frame is off returns this value to the line `back`.
-pub fn return_to(context: &mut Context, place: Option<u8>, saved: Locals, back: u32, n: i64)
-    ensures { IsReturned context.old context.new place saved back n }
+pub fn return_to(context: &mut Context, place: Option<u8>, back: u32, n: i64)
+    ensures { IsReturned context.old context.new place back n }
 {
     context.line = back;
-    context.locals = saved;
     if context.frames.is_empty() {
         context.value = n;
     }
     if let Some(p) = place {
-        context.locals.set(p, n);
+        context.frames.set_local(p, n);
     }
 }
 
@@ -85,11 +92,8 @@ fn return_value(context: &mut Context, n: i64)
         unreachable!()
     };
     match frame.kind {
-        Kind::Call { place, saved } => return_to(context, place, saved, frame.back, n),
-        _ => {
-            let saved = context.locals;
-            return_to(context, None, saved, frame.back, n);
-        }
+        Kind::Call { place, .. } => return_to(context, place, frame.back, n),
+        _ => return_to(context, None, frame.back, n),
     }
 }
 
@@ -109,7 +113,7 @@ fn go_on(lines: &Lines, context: &mut Context, row: &Row, n: i64)
         Form::Set(v, _) => {
             context.line += 1;
             match v {
-                Var::Local(p) => context.locals.set(*p, n),
+                Var::Local(p) => context.frames.set_local(*p, n),
                 Var::Shared(_) => {}
             }
         }
@@ -135,14 +139,8 @@ fn go_on(lines: &Lines, context: &mut Context, row: &Row, n: i64)
             }
         }
         Form::Call(name, _, place) => {
-            context.frames.push(Frame {
-                kind: Kind::Call {
-                    place: *place,
-                    saved: context.locals,
-                },
-                back: context.line + 1,
-            });
-            enter_routine(lines, context, *name, n);
+            let back = context.line + 1;
+            enter_routine(lines, context, *name, *place, back, n);
         }
         Form::Return(_) => return_value(context, n),
         _ => unreachable!(),

@@ -10,4 +10,4 @@ returns c =
     let n = c.errno-context.result in
     let fits : SFits w64 n = search (arith, ints) in
     let back : to_z w64 (of_z w64 n) ≡ n = to_z-of_z w64 n fits in
-    goes_past c.args.lines.now c.args.context.now c.args.call.now c.args.reply.now (listed_stores c.args.values) c.keep_all.new.locals (to_z w64 (of_z w64 n)) c.requires.stands c.requires.at c.requires.values c.keep_all.ensures (back ∙ c.errno-context.ensures)
+    goes_past c.args.lines.now c.args.context.now c.args.call.now c.args.reply.now (listed_stores c.args.values) c.keep_all.new.frames (to_z w64 (of_z w64 n)) c.requires.stands c.requires.at c.requires.values c.keep_all.ensures (back ∙ c.errno-context.ensures)

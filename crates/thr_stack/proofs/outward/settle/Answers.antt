@@ -8,17 +8,17 @@ use Rattle.thr_stack.proofs.outward.settle.Goals as goal
 
 pub returns-in-Begins : goal.returns-in-Begins
 returns-in-Begins c =
-    out_begins _ c.args.u c.args.context.now c.out.context c.args.notes.now c.out.invariant.dropped c.in-Some.frame c.pop.new.self c.in-Some.ensures.some c.pop.ensures.size c.in-Begins.kind c.in-Begins.line c.in-Begins.what c.push.new.self _
+    out_begins _ c.args.u c.args.context.now c.out.context c.args.notes.now c.out.invariant.dropped c.in-Some.frame c.pop.new.self c.in-Some.ensures.some c.pop.ensures.size c.in-Some.ensures.calls c.in-Begins.kind c.in-Begins.line c.in-Begins.what c.push.new.self _
     c.in-Begins.ensures c.push.ensures (c.push-in-Begins.ensures ∙ ap (λ a. a ++ c.in-Begins.what ∷ []) c.out.invariant.notes)
 
 pub returns-in-Undoes : goal.returns-in-Undoes
 returns-in-Undoes c =
-    let moved = out_undoes c.args.lines.now c.args.u c.args.context.now c.out.context c.args.notes.now c.out.invariant.dropped c.in-Some.frame c.pop.new.self c.in-Some.ensures.some c.pop.ensures.size c.push-in-Undoes.new.self c.in-Undoes.ensures c.push-in-Undoes.ensures in
+    let moved = out_undoes c.args.lines.now c.args.u c.args.context.now c.out.context c.args.notes.now c.out.invariant.dropped c.in-Some.frame c.pop.new.self c.in-Some.ensures.some c.pop.ensures.size c.in-Some.ensures.calls c.push-in-Undoes.new.self c.in-Undoes.ensures c.push-in-Undoes.ensures in
     subst (λ a. GoesOut c.args.lines.now c.args.u c.args.context.now (record c.out.context { frames = c.push-in-Undoes.new.self }) c.args.notes.now a) (sym c.out.invariant.notes) moved
 
 pub returns-in-Loses : goal.returns-in-Loses
 returns-in-Loses c =
-    out_loses _ c.args.u c.args.context.now c.out.context c.args.notes.now c.out.invariant.dropped c.in-Some.frame c.pop.new.self c.in-Some.ensures.some c.pop.ensures.size c.in-Loses.what _
+    out_loses _ c.args.u c.args.context.now c.out.context c.args.notes.now c.out.invariant.dropped c.in-Some.frame c.pop.new.self c.in-Some.ensures.some c.pop.ensures.size c.in-Some.ensures.calls c.in-Loses.what _
     c.in-Loses.ensures (c.push-in-Loses.ensures ∙ ap (λ a. a ++ c.in-Loses.what ∷ []) c.out.invariant.notes)
 
 pub returns : goal.returns

@@ -1,5 +1,4 @@
-use Rattle.std.proofs.Common.{◌∙◌, ap, sym, subst}
-use Rattle.thr_syntax.specs.declared.form.Form.TheVariants as form
+use Rattle.std.proofs.Common.{◌∙◌, sym, subst}
 use Rattle.thr_lines.specs.declared.row.Row.{Row}
 use Rattle.thr_lines.specs.Layout.{line_at, last_line}
 use Rattle.thr_lines.specs.AtLines.{FormAt}

@@ -1,7 +1,6 @@
 use Rattle.std.proofs.Common.{◌≡◌, ◌∙◌, ◌++◌, ℤ, [], if◌then◌else◌, sym, subst, append-nil, arith, w64}
 use Rattle.std.proofs.lemmas.Int.{to_z-of_z, ints}
 use mir.Val.{SFits, to_z, of_z}
-use Rattle.thr_syntax.specs.declared.form.Form.TheVariants as form
 use Rattle.thr_remainder.specs.Starts.{exited}
 use Rattle.thr_lines.specs.Layout.{line_at, last_line}
 use Rattle.thr_lines.specs.AtLines.{FormAt}

@@ -1,4 +1,4 @@
-use Rattle.std.proofs.Common.{◌≡◌, ◌∙◌, ℤ, ap, sym, subst, slice_set, arith, w64}
+use Rattle.std.proofs.Common.{◌≡◌, ◌+◌, ◌∙◌, ℤ, ap, sym, subst, arith, w64}
 use Rattle.std.proofs.lemmas.Int.{to_z-of_z, ints}
 use mir.Val.{SFits, to_z, of_z}
 use Rattle.thr_syntax.specs.declared.form.Form.TheVariants as form
@@ -6,7 +6,7 @@ use Rattle.thr_syntax.specs.declared.expr.Var.{Var}
 use Rattle.thr_remainder.specs.Expressions.{is_true}
 use Rattle.thr_lines.specs.Layout.{line_at, last_line}
 use Rattle.thr_lines.specs.AtLines.{FormAt}
-use Rattle.thr_stack.specs.Sights.{listed}
+use Rattle.thr_stack.specs.FrameLists.{FramesView, set_in}
 use Rattle.thr_stack.specs.Statements.{IsEntered, HasReturned}
 use Rattle.thr_stack.proofs.GoOns.{goes_local, goes_shared, goes_say, goes_then, goes_else, goes_again, goes_past, goes_call, goes_return}
 use Rattle.thr_stack.proofs.valued.go_on.Goals as goal
@@ -20,7 +20,7 @@ returns-in-Local c =
     let at = subst (FormAt (line_at s) (last_line s) k.line row) (c.in-Set.is ∙ ap (λ (x : Var). form.Set x c.in-Set.field-1) c.in-Local.is) c.requires.at in
     let fits : SFits w64 n = search (arith, ints) in
     let back : to_z w64 (of_z w64 n) ≡ n = to_z-of_z w64 n fits in
-    goes_local s k c.requires.stands n c.in-Local.p _ _ c.set.new.self at (c.set.ensures ∙ ap (slice_set (listed k.locals) c.in-Local.p) back)
+    goes_local s k c.requires.stands n c.in-Local.p _ _ c.set_local.new.self at (c.set_local.ensures ∙ ap (λ (m : ℤ). let f : FramesView = record k.frames { calls = set_in k.frames.calls c.in-Local.p m } in f) back)
 
 pub returns-in-Shared : goal.returns-in-Shared
 returns-in-Shared c =
@@ -93,8 +93,8 @@ returns-in-Call c =
     let at = subst (FormAt (line_at s) (last_line s) k.line row) c.in-Call.is c.requires.at in
     let fits : SFits w64 n = search (arith, ints) in
     let back : to_z w64 (of_z w64 n) ≡ n = to_z-of_z w64 n fits in
-    goes_call s k c.requires.stands n c.in-Call.name _ c.in-Call.place _ c.push.new.self c.enter_routine.new.context at c.push.ensures
-    (subst (λ (m : ℤ). IsEntered s c.in-Call.name m (record k { frames = c.push.new.self }) c.enter_routine.new.context) back c.enter_routine.ensures)
+    goes_call s k c.requires.stands n c.in-Call.name _ c.in-Call.place _ c.enter_routine.new.context at
+    (subst (λ (m : ℤ). IsEntered s c.in-Call.name c.in-Call.place (k.line + 1) m k c.enter_routine.new.context) back c.enter_routine.ensures)
 
 pub returns-in-Return : goal.returns-in-Return
 returns-in-Return c =
