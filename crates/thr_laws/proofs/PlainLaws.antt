@@ -1,5 +1,5 @@
 -- Plain lines are read as lines of their thread alone.
-use Rattle.std.proofs.Common.{◌≡◌, ℕ, Bool, true, false, not, ◌||◌, List, Some, None, refl}
+use Rattle.std.proofs.Common.{◌≡◌, ℕ, Bool, true, false, not, ◌&&◌, ◌||◌, List, Option, Some, None, refl, ap, sym}
 use Rattle.std.proofs.lemmas.Bool.{false≢true}
 use Rattle.thr_values.specs.declared.call.Arg.{Arg}
 use Rattle.thr_values.specs.declared.call.CallWord.{CallWord}
@@ -9,10 +9,12 @@ use Rattle.thr_values.specs.declared.history.What.TheVariants as what
 use Rattle.thr_values.specs.declared.reply.Kind.{Kind}
 use Rattle.thr_values.specs.declared.reply.Reply.{Reply}
 use Rattle.thr_values.specs.declared.reply.Reply.TheVariants as reply
+use Rattle.thr_syntax.specs.declared.tree.Script.{Script}
 use Rattle.thr_remainder.specs.Calls.{is_point}
 use Rattle.thr_laws.specs.Lines.{is_blocks}
 use Rattle.thr_laws.specs.Owners.{Lock, Nothing, use_done, use_valued, use_by_call, Cells, cells_done, cells_after, kind_done, kind_after}
 use Rattle.thr_laws.specs.Known.{cancel_by, general_by, asynchronous_by}
+use Rattle.thr_laws.specs.CancelLaw.{gives_up, is_of_answer, is_of_return}
 use Rattle.thr_laws.specs.Plain.{is_on_mutex, is_on_cancels, is_plain_call, is_plain, IsReadAsPlain}
 use Rattle.thr_laws.proofs.ReadingLaws.{both}
 
@@ -73,11 +75,29 @@ no_point true true c e = absurd (false≢true e)
 no_point true false c e = absurd (false≢true e)
 no_point false b c e = refl
 
+-- A call line isn't of the step of any return.
+no_answer : (s : Script) (r b : Reply) (answered : Option What) (call : CallWord) (args : List Arg) → is_of_answer s r answered (what.Call call args b) ≡ false
+no_answer s r b (Some (what.Call other given x)) call args = refl
+no_answer s r b _ call args = refl
+
+no_return : (s : Script) (b : Reply) (last earlier : Option What) (call : CallWord) (args : List Arg) → is_of_return s last earlier (what.Call call args b) ≡ false
+no_return s b (Some (what.Ret r)) earlier call args = no_answer s r b earlier call args
+no_return s b _ earlier call args = refl
+
+neither_holds : (a b : Bool) → a ≡ false → (a && b) ≡ false
+neither_holds true b e = absurd (false≢true (sym e))
+neither_holds false b e = refl
+
 plain_call : (call : CallWord) (args : List Arg) (r : Reply) → is_plain_call call ≡ true → not (is_blocks r) ≡ true → IsReadAsPlain (what.Call call args r)
 plain_call call args r h n = record {
+  own = refl;
   scopes = λ scopes. refl;
   making = refl;
   carrying = refl;
+  carrying_one = λ n. refl;
+  leaving_finally = λ scope. refl;
+  pausing = refl;
+  going_on = λ n scopes. refl;
   using_lock = no_use r call args h n;
   cells = λ cells. no_cell_after r call args cells h;
   kind = λ lock cells kind. no_kind_after r lock call args cells kind h;
@@ -86,6 +106,12 @@ plain_call call args r h n = record {
   asynchronous = λ on. no_asynchronous call args on h;
   waiting = opposite (is_blocks r) n;
   point = no_point (is_point call) (is_on_mutex call) (is_on_cancels call) h;
+  waiting_point = neither_holds (is_point call) (is_blocks r) (no_point (is_point call) (is_on_mutex call) (is_on_cancels call) h);
+  waiting_with = λ lock. ap (gives_up lock) (no_use r call args h n);
+  owed_or_outward = refl;
+  of_return = λ s last earlier. no_return s r last earlier call args;
+  before_step = λ s earlier next. refl;
+  statement = λ s k. refl;
   returning = refl;
   delivering = refl;
   ending = refl;

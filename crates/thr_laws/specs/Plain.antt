@@ -1,18 +1,20 @@
 -- Call lines that the laws read as lines of their thread alone (docs/laws.md, "Plain lines").
-use Rattle.std.specs.Prelude.{◌≡◌, ℕ, Bool, true, false, not, ◌&&◌, ◌||◌, List, Some, None}
+use Rattle.std.specs.Prelude.{◌≡◌, ℕ, Bool, true, false, not, ◌&&◌, ◌||◌, List, Option, Some, None}
 use Rattle.thr_values.specs.declared.call.CallWord.{CallWord}
 use Rattle.thr_values.specs.declared.call.CallWord.TheVariants as word
 use Rattle.thr_values.specs.declared.history.What.{What}
 use Rattle.thr_values.specs.declared.history.What.TheVariants as what
 use Rattle.thr_remainder.specs.Calls.{is_point}
 use Rattle.thr_values.specs.declared.reply.Kind.{Kind}
-use Rattle.thr_laws.specs.Lines.{is_blocks, is_waiting_call, is_return, is_delivery, is_end}
+use Rattle.thr_syntax.specs.declared.tree.Script.{Script}
+use Rattle.thr_laws.specs.Lines.{line_but_gift, is_blocks, is_waiting_call, is_return, is_delivery, is_end}
 use Rattle.thr_laws.specs.Scopes.{Open, opened_after}
-use Rattle.thr_laws.specs.Routes.{carried}
-use Rattle.thr_laws.specs.Routed.{made_by}
+use Rattle.thr_laws.specs.Routes.{carried, carried_by}
+use Rattle.thr_laws.specs.Routed.{made_by, ends_finally, is_pause, goes_on_from}
 use Rattle.thr_laws.specs.Owners.{Lock, Nothing, use_of, Cells, cells_after, kind_after}
-use Rattle.thr_laws.specs.Known.{cancel_of, general_after, asynchronous_after}
-use Rattle.thr_laws.specs.CancelLaw.{is_point_line}
+use Rattle.thr_laws.specs.Known.{Known, cancel_of, general_after, asynchronous_after}
+use Rattle.thr_laws.specs.CancelLaw.{is_point_line, is_waiting_point, is_owed_or_outward, is_of_return, is_wait_with}
+use Rattle.thr_laws.specs.CallsOnce.{names_its_statement}
 
 -- A call on a mutex, on a mutex attribute cell or on the global lock.
 abbrev pub is_on_mutex : CallWord → Bool
@@ -44,12 +46,16 @@ abbrev pub is_plain : What → Bool
 is_plain (what.Call call args r) = is_plain_call call && not (is_blocks r)
 is_plain _ = false
 
--- The line leaves what the laws know of scopes, unwindings, locks and cancels as it is, and is neither waiting nor a point, a
--- return or an end (docs/laws.md, "Plain lines").
+-- Each reading of a line that the laws have finds in this one only that its thread does something by it (docs/laws.md, "Plain lines").
 pub record IsReadAsPlain (w : What) : Type 0 where
+  pub own : line_but_gift true w ≡ Some w
   pub scopes : (scopes : List Open) → opened_after scopes w ≡ scopes
   pub making : made_by w ≡ None
   pub carrying : carried w ≡ None
+  pub carrying_one : (n : ℕ) → carried_by n w ≡ None
+  pub leaving_finally : (scope : ℕ) → ends_finally scope w ≡ false
+  pub pausing : is_pause w ≡ false
+  pub going_on : (n : ℕ) (scopes : List Open) → goes_on_from n scopes w ≡ None
   pub using_lock : use_of w ≡ Nothing
   pub cells : (cells : Cells) → cells_after w cells ≡ cells
   pub kind : (lock : Lock) (cells : Cells) (kind : Kind) → kind_after lock w cells kind ≡ kind
@@ -58,6 +64,12 @@ pub record IsReadAsPlain (w : What) : Type 0 where
   pub asynchronous : (on : Bool) → asynchronous_after (Some w) on ≡ on
   pub waiting : is_waiting_call w ≡ false
   pub point : is_point_line w ≡ false
+  pub waiting_point : is_waiting_point w ≡ false
+  pub waiting_with : (lock : Lock) → is_wait_with lock w ≡ false
+  pub owed_or_outward : is_owed_or_outward w ≡ false
+  pub of_return : (s : Script) (last earlier : Option What) → is_of_return s last earlier w ≡ false
+  pub before_step : (s : Script) (earlier : Option What) (next : What) → is_of_return s (Some w) earlier next ≡ false
+  pub statement : (s : Script) (k : Known) → names_its_statement s k (Some w) ≡ true
   pub returning : is_return w ≡ false
   pub delivering : is_delivery w ≡ false
   pub ending : is_end w ≡ false
