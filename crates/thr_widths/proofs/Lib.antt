@@ -1,0 +1,4 @@
+pub mod LineWidths
+pub mod NameWidths
+pub mod CallWidths
+pub mod JournalWidths
