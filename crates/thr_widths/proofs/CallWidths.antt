@@ -1,7 +1,7 @@
 -- How many bytes a call's words take.
-use Rattle.std.proofs.Common.{◌≡◌, ℕ, zero, suc, ◌+◌, ◌==◌, ◌≤◌, Bool, true, false, ◌&&◌, List, [], ◌∷◌, ◌++◌, length, Option, Some, None, refl, arith, if◌then◌else◌}
+use Rattle.std.proofs.Common.{◌≡◌, ℕ, zero, suc, ◌+◌, ◌≤◌, Bool, true, false, List, [], ◌∷◌, length, refl, arith, if◌then◌else◌}
 use Rattle.std.specs.Prelude.{nat_le, slice_get, unwrap_or}
-use Rattle.std.specs.List.{list_all, filter}
+use Rattle.std.specs.List.{list_all}
 use Rattle.std.proofs.lemmas.Bool.{leb-true, and_parts, false≢true}
 use Rattle.thr_values.specs.Words.{call_word}
 use Rattle.thr_values.specs.declared.call.CallWord.{CallWord}
@@ -13,13 +13,13 @@ use Rattle.thr_values.specs.declared.reply.Effect.TheVariants as effect
 use Rattle.thr_values.specs.declared.reply.Reply.{Reply}
 use Rattle.thr_values.specs.declared.reply.Reply.TheVariants as reply
 use Rattle.thr_syntax.specs.declared.tree.Script.{Script}
-use Rattle.thr_text.specs.Journals.{Names, effect_word, reply_word, fixed_words, arg_words, args_words}
+use Rattle.thr_text.specs.Journals.{effect_word, reply_word, fixed_words, arg_words, args_words}
 use Rattle.thr_text.specs.Slots.{call_slots}
 use Rattle.thr_text.specs.declared.head.Slot.{Slot}
 use Rattle.thr_text.specs.declared.head.Slot.TheVariants.{Object, ObjectOr, Fixed, Expression}
-use Rattle.thr_verdict.specs.Places.{has_argument, places_of, suits, is_absent, fill, have_their_form}
+use Rattle.thr_verdict.specs.Places.{places_of, suits, is_absent, fill}
 use Rattle.thr_verdict.specs.FormedJournals.{is_formed_reply}
-use Rattle.thr_widths.specs.Replies.{takes_a_value, may_reply}
+use Rattle.thr_widths.specs.Replies.{takes_a_value}
 use Rattle.thr_widths.proofs.LineWidths.{width, width_append, short_signed}
 use Rattle.thr_widths.proofs.NameWidths.{AreShort, short_at}
 

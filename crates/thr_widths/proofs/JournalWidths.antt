@@ -1,10 +1,8 @@
 -- How many bytes the lines of a history take, and its journal.
-use Rattle.std.proofs.Common.{◌≡◌, ℕ, zero, suc, ℤ, ◌+◌, ◌*◌, ◌<◌, ◌≤◌, Bool, true, false, ◌&&◌, ◌==◌, List, [], ◌∷◌, ◌++◌, length, map, codes, Option, Some, None, refl, ap, sym, ◌∙◌, arith, length-append, if◌then◌else◌}
+use Rattle.std.proofs.Common.{◌≡◌, ℕ, ℤ, ◌+◌, ◌*◌, ◌<◌, ◌≤◌, Bool, true, false, ◌&&◌, List, [], ◌∷◌, ◌++◌, length, map, codes, Option, Some, None, refl, arith, length-append, if◌then◌else◌}
 use Rattle.std.specs.List.{list_all, join_with_byte}
-use Rattle.std.specs.Prelude.{nat_le}
 use Rattle.std.specs.Fmt.{decimal, signed_decimal}
 use Rattle.std.proofs.lemmas.Bool.{leb-true, and_parts, false≢true}
-use Rattle.thr_values.specs.Words.{call_word}
 use Rattle.thr_values.specs.declared.number.NameId.{NameId}
 use Rattle.thr_values.specs.declared.call.CallWord.{CallWord}
 use Rattle.thr_values.specs.declared.call.Arg.{Arg}
@@ -28,12 +26,12 @@ use Rattle.thr_text.specs.declared.object.Object.TheVariants as object
 use Rattle.thr_trees.specs.Kinds.{is_name_of}
 use Rattle.thr_text.specs.Reading.{Formed}
 use Rattle.thr_reading.proofs.CanonLaws.{canon_short}
-use Rattle.thr_verdict.specs.Places.{places_of, fits_32, fits_64, fits_signed, fill, have_their_form}
-use Rattle.thr_verdict.specs.FormedJournals.{is_processor, is_clock, is_thread, fits_what, is_formed_reply, is_formed_exception, is_formed_gift, is_formed_what, is_formed_line, is_formed_stop, FormedJournal}
+use Rattle.thr_verdict.specs.Places.{places_of, fits_32, fits_64, fits_signed, have_their_form}
+use Rattle.thr_verdict.specs.FormedJournals.{is_processor, is_clock, is_thread, fits_what, is_formed_reply, is_formed_exception, is_formed_what, is_formed_line, is_formed_stop, FormedJournal}
 use Rattle.thr_widths.specs.Replies.{takes_a_value, may_reply, replies_so, has_its_reply}
 use Rattle.thr_widths.proofs.LineWidths.{width, line_width, width_append, short_decimal, short_32, short_64, short_signed}
 use Rattle.thr_widths.proofs.NameWidths.{AreShort, short_at, names_short}
-use Rattle.thr_widths.proofs.CallWidths.{arguments_short, rooms, most, greatest, call_fits, reply_room, reply_short, any_room}
+use Rattle.thr_widths.proofs.CallWidths.{arguments_short, most, greatest, call_fits, reply_short, any_room}
 
 -- ---- calls
 

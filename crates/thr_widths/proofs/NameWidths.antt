@@ -1,7 +1,5 @@
 -- Names of scripts that keep the rules are short.
-use Rattle.std.proofs.Common.{◌≡◌, ℕ, zero, suc, ◌≤◌, Bool, true, false, ◌&&◌, List, [], ◌∷◌, ◌++◌, length, map, drop, Option, Some, None, refl, arith, subst, sym, if◌then◌else◌}
-use Rattle.std.specs.Prelude.{nat_lt, nat_le, slice_get, unwrap_or, slice_index}
-use Rattle.std.specs.List.{list_all}
+use Rattle.std.proofs.Common.{◌≡◌, ℕ, zero, suc, ◌≤◌, Bool, true, false, List, [], ◌∷◌, ◌++◌, length, map, Option, Some, None, refl, arith, subst, sym, if◌then◌else◌}
 use Rattle.std.proofs.lemmas.Bool.{leb-true, and_parts}
 use Rattle.thr_values.specs.Exceptions.{builtin_names}
 use Rattle.thr_syntax.specs.declared.tree.Script.{Script}
@@ -11,10 +9,10 @@ use Rattle.thr_text.specs.declared.word.Word.TheVariants.{Num, Name, Mark}
 use Rattle.thr_text.specs.declared.head.Slot.{Slot}
 use Rattle.thr_text.specs.declared.head.Slot.TheVariants.{Declared}
 use Rattle.thr_text.specs.declared.head.Head.{Head}
-use Rattle.thr_text.specs.Names.{has_name_form, is_letter, is_letter_or_digit}
+use Rattle.thr_text.specs.Names.{has_name_form}
 use Rattle.thr_text.specs.Lexing.{has_number_form, value_of, word_of}
 use Rattle.thr_text.specs.Slots.{slots_of, slots_behind, head_of_line}
-use Rattle.thr_text.specs.Tables.{Entry, Placed, placed, placed_after, placed_in, rest_of, entry_of, declared_at, declared_in_all, declared_in, declarations}
+use Rattle.thr_text.specs.Tables.{Entry, placed, placed_after, rest_of, declared_at, declared_in_all, declared_in, declarations}
 use Rattle.thr_text.specs.Reading.{Formed, own_lines}
 
 -- ---- lists of short texts

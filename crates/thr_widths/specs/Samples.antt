@@ -1,7 +1,6 @@
 -- A script with names of 24 bytes, and its widest lines.
-use Rattle.std.specs.Prelude.{ℕ, ℤ, pos, negsuc, List, [], ◌∷◌, ◌++◌, codes, Some, None}
+use Rattle.std.specs.Prelude.{ℕ, ℤ, negsuc, [], ◌∷◌, ◌++◌, codes}
 use Rattle.thr_values.specs.Exceptions.{builtin_names}
-use Rattle.thr_values.specs.declared.number.NameId.{NameId}
 use Rattle.thr_values.specs.declared.call.Arg.{Arg}
 use Rattle.thr_values.specs.declared.call.Arg.TheVariants as arg
 use Rattle.thr_values.specs.declared.call.CallWord.TheVariants as word

@@ -1,6 +1,6 @@
 //! Laws on the widths of lines and journals.
 
-ghost use Rattle.std.specs.Prelude.{◌≡◌, ◌≤◌, ◌<◌, ℕ, List, length, true, IsTrue};
+ghost use Rattle.std.specs.Prelude.{◌≤◌, ◌<◌, ℕ, length, IsTrue};
 ghost use Rattle.std.specs.List.{list_all};
 ghost use Rattle.thr_values.specs.declared.history.Entry.{Entry};
 ghost use Rattle.thr_values.specs.declared.number.NameId.{NameId};
