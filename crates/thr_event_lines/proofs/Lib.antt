@@ -1,0 +1,5 @@
+pub mod OneMutex
+pub mod ShortSteps
+pub mod ShortRuns
+pub mod FewGifts
+pub mod FewLines
