@@ -1,0 +1,12 @@
+pub mod OwedLaws
+pub mod MoveLaws
+pub mod StepLaws
+pub mod ReplyLaws
+pub mod NameLaws
+pub mod StoreLaws
+pub mod AnswerLaws
+pub mod CallLaws
+pub mod EndLaws
+pub mod HaltLaws
+pub mod RunLaws
+pub mod ReadyLaws
