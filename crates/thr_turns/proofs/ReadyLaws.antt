@@ -34,7 +34,8 @@ use Rattle.thr_turns.specs.declared.workings.Workings.{Workings}
 use Rattle.thr_turns.specs.declared.workings.Left.{Left}
 use Rattle.thr_turns.specs.declared.workings.Left.TheVariants.{Goes, Begins, Ended}
 use Rattle.thr_turns.specs.Steps.{most_lines, left_in, IsBegun, StepsTo, Keeps, IsTurnBy, IsTurn}
-use Rattle.thr_turns.specs.Ready.{block_of, IsReady}
+use Rattle.thr_open_onces.specs.Blocks.{block_of}
+use Rattle.thr_turns.specs.Ready.{IsReady}
 use Rattle.thr_turns.proofs.AnswerLaws.{put-here}
 use Rattle.thr_turns.proofs.OwedLaws.{has-owed}
 

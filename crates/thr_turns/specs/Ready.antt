@@ -1,11 +1,11 @@
 -- What a turn asks of the state in which a thread makes it (docs/machine.md, "Turns").
-use Rattle.std.specs.Prelude.{◌≡◌, ◌+◌, ◌<◌, ◌≤◌, ◌^◌, ℤ, true, length, Option, Some, None, IfSome}
+use Rattle.std.specs.Prelude.{◌≡◌, ◌+◌, ◌<◌, ◌≤◌, ◌^◌, ℤ, true, length, Option, Some, IfSome}
 use Rattle.thr_values.specs.declared.number.Tid.{Tid}
 use Rattle.thr_values.specs.declared.number.NameId.{NameId}
 use Rattle.thr_syntax.specs.declared.tree.Script.{Script}
 use Rattle.thr_remainder.specs.Remainders.{Remainder, has_room}
-use Rattle.thr_remainder.specs.Runs.{Halt, Undoes, Completes, run_of, most_steps}
-use Rattle.thr_parts.specs.Tables.{Table, none, get, names}
+use Rattle.thr_remainder.specs.Runs.{Halt, run_of, most_steps}
+use Rattle.thr_parts.specs.Tables.{Table, none, names}
 use Rattle.thr_parts.specs.Rows.{most, seat_of, is_running}
 use Rattle.thr_parts.specs.Mutexes.{owner}
 use Rattle.thr_parts.specs.Cancels.{mode_at}
@@ -19,13 +19,8 @@ use Rattle.thr_services.specs.Ready.{OwersStand}
 use Rattle.thr_services.specs.Cancelling.{SeatsHaveRecords, MutexesFit}
 use Rattle.thr_frames.specs.declared.stopped.Stopped.{Stopped}
 use Rattle.thr_frames.specs.Runs.{IsHalt}
+use Rattle.thr_open_onces.specs.Blocks.{block_of}
 use Rattle.thr_frames.specs.Stacks.{StackView, remainder_of, setting_of, IsRoutine, CanNumber}
-
--- The once block that ends the quiet part of a turn, done or undone, if one does (docs/machine.md, "Once blocks").
-abbrev pub block_of : Halt → Option NameId
-block_of (Undoes block move) = Some block
-block_of (Completes block move) = Some block
-block_of _ = None
 
 -- What ends the quiet part can be made: where that is a once block, its name fits tables by names (docs/machine.md, "Turns").
 pub record CanHalt (s : Script) (k : StackView) (x : Stopped) : Type 0 where

@@ -15,7 +15,8 @@ ghost use Rattle.thr_services.specs.Sound.{IsSound};
 ghost use Rattle.thr_frames.specs.Stacks.{remainder_of, setting_of, IsStack, IsRoutine, CanNumber};
 ghost use Rattle.thr_frames.specs.Runs.{IsHalt};
 ghost use Rattle.thr_turns.specs.Steps.{Steps, Keeps, IsTurnBy, IsTurn, most_lines};
-ghost use Rattle.thr_turns.specs.Ready.{IsReady, CanHalt, block_of};
+ghost use Rattle.thr_open_onces.specs.Blocks.{block_of};
+ghost use Rattle.thr_turns.specs.Ready.{IsReady, CanHalt};
 
 use crate::debts::make_debt;
 use crate::ends::{complete_block, deliver_cancel, end_thread, make_shared, undo_block};
