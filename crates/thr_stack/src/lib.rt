@@ -2,7 +2,6 @@
 #![tactic(auto)]
 
 pub mod begin;
-pub mod compute;
 pub mod context;
 pub mod forms;
 pub mod frame;

@@ -8,13 +8,13 @@ ghost use Rattle.thr_stack.specs.declared.frame.Kind.TheVariants as kind;
 ghost use Rattle.thr_stack.specs.Standing.{IsGood, IsKind, Ends};
 ghost use Rattle.thr_stack.specs.Unwinds.{Catching, NoCatch, GoesOut, Meets};
 
-use crate::compute::same;
 use crate::context::Context;
 use crate::frame::{Frame, Kind, Met};
 use crate::leave::is_finally;
 use crate::notes::Notes;
 use crate::sight::exception;
 use thr_lines::lines::Lines;
+use thr_operators::compute::same;
 use thr_remainder::unwinding::{Cause, Unwinding};
 use thr_syntax::form::Form;
 use thr_values::exception::{CANCEL_E, Exc};

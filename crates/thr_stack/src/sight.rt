@@ -6,9 +6,9 @@ ghost use Rattle.thr_remainder.specs.Expressions.{value_in, value_of, two_values
 ghost use Rattle.thr_stack.specs.Sights.{shared_of, seen};
 ghost use Rattle.thr_stack.specs.Standing.{IsGood, setting_of, remainder_of};
 
-use crate::compute::{apply, both, opposite, same, status, truth};
 use crate::context::Context;
 use thr_lines::lines::Lines;
+use thr_operators::compute::{apply, both, opposite, same, status, truth};
 use thr_syntax::expr::{ExcRef, Expr, Op, Var};
 use thr_values::exception::Exc;
 use thr_values::number::NameId;

@@ -10,7 +10,6 @@ ghost use Rattle.thr_stack.specs.Sights.{shared_of};
 ghost use Rattle.thr_stack.specs.Standing.{IsGood, Stands, IsReady, Steps, IsRoutine, CanCall, setting_of, remainder_of};
 ghost use Rattle.thr_stack.specs.Statements.{outcome, Carries, GoesOn, IsCarried, IsEntered, IsReturned, HasReturned};
 
-use crate::compute::is_true;
 use crate::context::Context;
 use crate::forms::{needs_frame, tell, write_of};
 use crate::frame::Kind;
@@ -19,6 +18,7 @@ use crate::raise::{exit, raise};
 use crate::sight::value;
 use thr_lines::lines::Lines;
 use thr_lines::row::Row;
+use thr_operators::compute::is_true;
 use thr_syntax::expr::{Expr, Var};
 use thr_syntax::form::Form;
 use thr_values::exception::{Exc, STACKOVF_E};

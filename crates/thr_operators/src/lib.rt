@@ -1,0 +1,4 @@
+//! The operators of expressions.
+#![tactic(auto)]
+
+pub mod compute;
