@@ -1,0 +1,10 @@
+pub mod Tables
+pub mod OpeningLaws
+pub mod ReadyLaws
+pub mod Keeping
+pub mod Turning
+pub mod Stops
+pub mod Dispatching
+pub mod Clocks
+pub mod BookEvents
+pub mod Rooms
