@@ -1,49 +1,62 @@
 -- What a book stands for, and what its calls do (docs/theorems.md, "The book").
-use Rattle.std.specs.Prelude.{◌≡◌, ℕ, ◌+◌, ◌-◌, ◌≤◌, ◌<◌, ◌^◌, ℤ, List, [], ◌++◌, length, Option, None, Some, IfSome, vec_len, vec_capacity}
+use Rattle.std.specs.Prelude.{◌≡◌, ℕ, ◌+◌, ◌-◌, ◌≤◌, ◌<◌, nat_le, List, [], ◌++◌, codes, length, position, unwrap_or, Bool, true, ◌&&◌, Option, None, Some, IfSome, is_some, vec_len, vec_capacity}
+use Rattle.std.specs.Str.{bytes_eq}
+use Rattle.thr_values.specs.declared.number.NameId.{NameId}
 use Rattle.thr_values.specs.declared.event.Event.{Event}
 use Rattle.thr_values.specs.declared.event.Stop.{Stop}
-use Rattle.thr_values.specs.declared.event.Stop.TheVariants as stops
 use Rattle.thr_values.specs.declared.history.Entry.{Entry}
 use Rattle.thr_syntax.specs.declared.tree.Script.{Script}
 use Rattle.thr_text.specs.Reading.{Formed}
-use Rattle.thr_remainder.specs.Remainders.{Remainder, Spot, At, place_in}
-use Rattle.thr_parts.specs.Tables.{Table, has}
-use Rattle.thr_model.specs.States.{opening, declared_values}
+use Rattle.thr_remainder.specs.Declarations.{interface_of}
+use Rattle.thr_remainder.specs.Remainders.{Setting}
+use Rattle.thr_parts.specs.Tables.{Table}
+use Rattle.thr_parts.specs.Rows.{thread}
+use Rattle.thr_model.specs.States.{State, opening}
+use Rattle.thr_model.specs.States as states
 use Rattle.thr_model.specs.Turns.{Made}
 use Rattle.thr_model.specs.Events.{made_by}
 use Rattle.thr_model.specs.Histories.{History, stop_at, StopsWith, limit_of, turn_count}
-use Rattle.thr_frames.specs.Stacks.{StackView, remainder_of, setting_of, IsStack, HasNoOnce}
-use Rattle.thr_alone.specs.OneThread.{Standing, Ready, Running, Ended, one_thread_at}
-use Rattle.thr_alone.specs.OneTurn.{first_setting}
-use Rattle.thr_machine.specs.Built.{first_unbuilt}
+use Rattle.thr_frames.specs.Stacks.{StackView, most_frames, HasNoFrame}
+use Rattle.thr_services.specs.Views.{state_with}
+use Rattle.thr_stacks.specs.Stacks.{remainders_of, StacksStand}
+use Rattle.thr_turns.specs.declared.workings.Workings.{Workings}
 use Rattle.thr_machine.specs.Views.{BookView}
-use Rattle.thr_machine.specs.declared.book.Phase.{Phase}
-use Rattle.thr_machine.specs.declared.book.Phase.TheVariants as phase
 use Rattle.thr_machine.specs.declared.book.Book.TheInside.{Inside}
 
 -- ---- the representation
 
--- Where the thread of a book is, with so many turns left of its slice (docs/theorems.md, "The book").
-abbrev pub standing_of : Phase → ℕ → Standing
-standing_of phase.Ready slice = Ready
-standing_of phase.OnProcessor slice = Running 0 slice
-standing_of (phase.Over value) slice = Ended value
+-- The name `main` among these, or the first of them (docs/machine.md, "The opening").
+abbrev pub main_in : List (List ℕ) → NameId
+main_in ns = record { 0 = unwrap_or (position (λ name. bytes_eq name (codes "main")) ns) 0 }
 
--- A book of one processor and one thread, which stands here (docs/theorems.md, "The book").
-abbrev pub book_at : Script → Standing → Remainder → Table ℤ → List Entry → (turns : ℕ) → Option Stop → (room : ℕ) → BookView
-book_at s sd r shared entries turns stopped room = record {
-  script = s;
-  workers = 1;
-  state = one_thread_at s sd r shared;
-  entries = entries;
-  turns = turns;
-  stopped = stopped;
-  room = room;
-}
+-- How many lines an event writes at most (docs/machine.md, "Turns").
+abbrev pub most_lines : ℕ
+most_lines = 1160
+
+-- For how many frames a stack has memory (docs/machine.md, "Frames").
+abbrev pub most_size : ℕ
+most_size = 1024
+
+-- There is memory for one event: for its lines, for the stack of a thread that it makes, and for a value of a key that it sets
+-- (docs/theorems.md, "The book").
+abbrev pub has_memory : Workings → Option StackView → Bool
+has_memory w spare = nat_le most_lines (vec_capacity w.entries - vec_len w.entries) && (is_some spare && nat_le 1 w.services.onces.room)
+
+-- The state for which a book stands (docs/machine.md, "The state").
+abbrev pub state_of : Script → Workings → Table StackView → State
+state_of s w stacks = state_with w.services (remainders_of s stacks) w.shared
 
 -- What contracts see of a book with these fields (docs/theorems.md, "The book").
 abbrev pub view_of : Inside → BookView
-view_of a = book_at a.lines (standing_of a.phase a.slice) (remainder_of a.lines a.stack) a.shared a.entries.items a.turns a.stopped (vec_capacity a.entries - vec_len a.entries)
+view_of a = record {
+  script = a.lines;
+  workers = a.workers;
+  state = state_of a.lines a.workings a.stacks;
+  entries = a.workings.entries.items;
+  turns = a.turns;
+  stopped = a.stopped;
+  room = has_memory a.workings a.spare;
+}
 
 -- The stop that holds in a book, want of memory aside.
 abbrev pub stop_of : BookView → Option Stop
@@ -54,45 +67,29 @@ pub record IsReached (b : BookView) : Type 0 where
   pub events : List Event
   pub history : History b.script b.workers (record { state = b.state; events = events; entries = b.entries; turns = b.turns })
 
--- The stack is that of thread 1 in this script, which has no once block open and had at most so many scopes and unwindings
--- (docs/theorems.md, "The book").
-pub record IsFirstStack (s : Script) (k : StackView) (most : ℕ) : Type 0 where
-  pub setting : setting_of s k ≡ first_setting s
-  pub stack : IsStack s k
-  pub no_once : HasNoOnce (remainder_of s k)
-  pub scopes : (remainder_of s k).scopes ≤ most
-  pub unwindings : (remainder_of s k).unwindings ≤ most
+-- What stays in a thread by its number, where the state is this (docs/machine.md, "Frames").
+abbrev pub settings_in : Script → State → ℕ → Setting
+settings_in s st t = states.setting_of s st (thread t)
 
--- More lines than a history has in memory, and so more scopes and unwindings than its thread has had (docs/theorems.md, "The
--- book").
-abbrev pub most_entries : ℕ
-most_entries = 2 ^ 63
-
--- A statement is next (docs/machine.md, "The next step").
-pub record HasSpot (r : Remainder) : Type 0 where
-  pub spot : Spot
-  pub here : place_in r.items ≡ At spot
-
--- The variables with a value are those that the script declares (docs/theorems.md, "The book").
-abbrev pub AreDeclared : Script → Table ℤ → Type 0
-AreDeclared s shared = (name : ℕ) → has shared name ≡ has (declared_values s.items) name
+-- A stack that no thread has, for the next that begins (docs/theorems.md, "The book").
+pub record IsSpare (k : StackView) : Type 0 where
+  pub no_frame : HasNoFrame k
+  pub large : most_frames k ≡ most_size
 
 -- What each book keeps.
 pub record IsKept (a : Inside) : Type 0 where
   pub formed : Formed a.lines
-  pub built : first_unbuilt a.lines ≡ None
   pub limit : a.limit ≡ limit_of a.lines
-  pub thread : IsFirstStack a.lines a.stack (vec_len a.entries)
-  pub declared : AreDeclared a.lines a.shared
+  pub some : 1 ≤ a.workers
+  pub few : a.workers ≤ 16
+  pub stand : StacksStand a.lines a.stacks (settings_in a.lines (state_of a.lines a.workings a.stacks))
+  pub interface : a.workings.interface ≡ interface_of a.lines
+  pub spare : IfSome a.spare IsSpare
   pub reached : IsReached (view_of a)
-  pub counted : a.turns ≤ vec_len a.entries
+  pub counted : a.turns ≤ vec_len a.workings.entries
   pub stopped : IfSome a.stopped (λ why. StopsWith (stop_of (view_of a)) why)
 
 -- ---- contracts
-
--- How many lines an event writes at most (docs/machine.md, "Turns").
-abbrev pub most_lines : ℕ
-most_lines = 136
 
 -- A book that was opened now (docs/theorems.md, "The book").
 pub record IsOpened (b : BookView) (s : Script) (n : ℕ) : Type 0 where
@@ -103,13 +100,13 @@ pub record IsOpened (b : BookView) (s : Script) (n : ℕ) : Type 0 where
   pub turns : b.turns ≡ 0
   pub stopped : b.stopped ≡ None
 
--- An event may be made: the book is not stopped, no stop holds, and there is room.
+-- An event may be made: the book is not stopped, no stop holds, and there is memory.
 pub record IsOpen (b : BookView) : Type 0 where
   pub going : b.stopped ≡ None
   pub no_stop : stop_of b ≡ None
-  pub room : most_lines ≤ b.room
+  pub room : b.room ≡ true
 
--- This event was made and wrote its lines, of which there is one at least and 136 at most; but for the room nothing else has
+-- This event was made and wrote its lines, of which there is one at least and 1,160 at most; but for the room nothing else has
 -- changed (docs/theorems.md, "The book").
 pub record Makes (old new : BookView) (e : Event) : Type 0 where
   pub made : Made
@@ -121,10 +118,3 @@ pub record Makes (old new : BookView) (e : Event) : Type 0 where
 -- Nothing but the room has changed.
 abbrev pub RoomOnly : BookView → BookView → Type 0
 RoomOnly old new = new ≡ record old { room = new.room }
-
--- The stop of a machine in which no thread waits for another: its thread has ended, or the lines have come to the limit
--- (docs/machine.md, "Stops").
-abbrev pub IsEndAlone : Stop → Type 0
-IsEndAlone stops.Finished = Unit {0}
-IsEndAlone stops.Limit = Unit {0}
-IsEndAlone _ = ⊥

@@ -1,4 +1,3 @@
-pub mod Built
-pub mod Passing
 pub mod Views
 pub mod Books
+pub mod Stepping

@@ -1,56 +1,54 @@
 //! The book: the machine with the history of its events.
 
-ghost use Rattle.std.specs.Prelude.{◌≡◌, ◌≤◌, ◌<◌, ◌↔◌, IsTrue, IfOk, IsSome, IfSome, IfNone, OnOk, OnErr, None, Some, is_some, false};
+ghost use Rattle.std.specs.Prelude.{◌≡◌, ◌≤◌, ◌<◌, ◌↔◌, IsTrue, IfOk, IsSome, IfSome, IfNone, OnOk, OnErr, None, Some, is_some, true, false};
 ghost use Rattle.thr_values.specs.declared.event.Event.TheVariants as event;
+ghost use Rattle.thr_parts.specs.declared.row.RowId.TheVariants as row;
 ghost use Rattle.thr_parts.specs.Dispatch.{running};
+ghost use Rattle.thr_parts.specs.Rows.{best};
 ghost use Rattle.thr_model.specs.Events.{made_by};
 ghost use Rattle.thr_model.specs.Histories.{StopsWith, Legal};
 ghost use Rattle.thr_model.specs.States.{declared_values};
 ghost use Rattle.thr_parts.specs.Tables.{get, has};
 ghost use Rattle.thr_text.specs.Reading.{Formed};
-ghost use Rattle.thr_machine.specs.Built.{first_unbuilt};
 
-use crate::opening::{first_stack, first_values, limit_of, shared_names_fit};
-use crate::turn::{make_turn, next_slice};
-use crate::writing::{write, write_all};
+use crate::memory::{has_memory, take_memory};
+use crate::opening::{first_stacks, first_workings, limit_of, names_fit};
+use crate::ready::{
+    clocks_find_what_they_ask, stacks_stand_after_events, threads_have_frames_and_places,
+    turns_find_what_they_ask,
+};
+use crate::stepping::{move_clock, settle, turn_in_place};
+use crate::stopping::{goes_on, is_full, stop_among};
+use crate::writing::{write, write_gifts};
 use sqlite_items::Items;
 use std::alloc::Global;
 use std::marker::Model;
-use thr_alone::SharedVariables;
-use thr_alone::laws::{
-    machines_open_with_one_thread, one_thread_is_dispatched, one_thread_stops,
-    turns_leave_one_thread,
-};
+use thr_counts::laws::counts_rise_with_the_lines;
 use thr_frames::stack::Stack;
 use thr_lines::lines::Lines;
-use thr_stack::notes::Notes;
+use thr_model::laws::states_stay_canonical;
+use thr_stacks::Stacks;
+use thr_stacks::laws::{remainders_change_with_stacks, stacks_go_on_standing};
 use thr_syntax::journal::Journal;
 use thr_syntax::tree::Script;
+use thr_turns::workings::Workings;
 use thr_values::event::Stop;
 use thr_values::history::{Entry, What, Who};
 use thr_values::number::{NameId, NoMemory, Tid};
-
-/// Where the one thread is.
-#[derive(Clone, Copy, Debug, PartialEq, Eq)]
-pub enum Phase {
-    Ready,
-    OnProcessor,
-    /// It has ended with this value.
-    Over(i64),
-}
+use thr_variables::laws::shared_variables_stay_declared;
 
 /// A machine that is opened on a script, with its history. Contracts see its script, its workers, its state, the lines of
-/// its history, how many of its events were turns, the stop that was made, and for how many lines there is room
+/// its history, how many of its events were turns, the stop that was made, and whether there is memory for one event
 /// (docs/machine.md, "Histories").
 #[derive(Drop)]
 pub struct Book {
+    alloc: Global,
     lines: Lines,
-    stack: Stack,
-    shared: SharedVariables,
-    notes: Notes,
-    entries: Vec<Entry>,
-    phase: Phase,
-    slice: u8,
+    workings: Workings,
+    stacks: Stacks,
+    /// A stack for the next thread that begins.
+    spare: Option<Stack>,
+    workers: u32,
     turns: u64,
     limit: u64,
     stopped: Option<Stop>,
@@ -73,36 +71,32 @@ impl Model for Book {
     ghost invariant = { IsKept };
 }
 
-/// How many lines an event writes at most.
-const MOST_LINES: usize = 136;
-
 /// How many names a script has at most.
 const NAMES: usize = 1010;
 
 impl Book {
-    ghost use Rattle.thr_machine.specs.Books.{IsOpened, IsOpen, Makes, RoomOnly, IsReached, IsEndAlone, most_lines, stop_of};
+    ghost use Rattle.thr_machine.specs.Books.{IsOpened, IsOpen, Makes, RoomOnly, IsReached, stop_of};
 
-    /// A machine of `workers` processors, opened on the script. So far there is one processor.
+    /// A machine of `workers` processors, opened on the script.
     pub fn new(alloc: Global, script: Script, workers: u32) -> Result<Book, NoMemory>
         requires formed { Formed script }
-        requires built { first_unbuilt script ≡ None }
-        requires one { workers ≡ 1 }
+        requires some { 1 ≤ workers }
+        requires few { workers ≤ 16 }
         ensures { IfOk result (λ b. IsOpened b script workers) }
     {
-        let _ = workers;
-        machines_open_with_one_thread();
-        let shared = first_values(alloc, &script)?;
+        remainders_change_with_stacks();
+        stacks_go_on_standing();
+        let workings = first_workings(alloc, &script)?;
         let limit = limit_of(script.items.as_slice());
         let lines = Lines::build(alloc, script)?;
-        let stack = first_stack(alloc, &lines)?;
+        let stacks = first_stacks(alloc, &lines)?;
         Ok(Book {
+            alloc,
             lines,
-            stack,
-            shared,
-            notes: Notes::new(alloc)?,
-            entries: Vec::new(alloc),
-            phase: Phase::Ready,
-            slice: 8,
+            workings,
+            stacks,
+            spare: None,
+            workers,
             turns: 0,
             limit,
             stopped: None,
@@ -111,31 +105,25 @@ impl Book {
 
     /// Takes the memory for one event. Of the calls on a book it alone can find none.
     pub fn make_room(&mut self) -> Result<(), NoMemory>
-        ensures ok { OnOk result (most_lines ≤ self.new.room) }
+        ensures ok { OnOk result (self.new.room ≡ true) }
         ensures same { RoomOnly self.old self.new }
         ensures err { OnErr result (self.new ≡ self.old) }
     {
-        match self.entries.reserve(MOST_LINES) {
-            Ok(()) => Ok(()),
-            Err(_) => Err(NoMemory),
-        }
+        take_memory(self.alloc, &mut self.workings, &mut self.spare)
     }
 
-    /// Whether there is room for one event.
+    /// Whether there is memory for one event.
     pub fn room(&self) -> bool
-        ensures { IsTrue result ↔ (most_lines ≤ self.now.room) }
+        ensures { IsTrue result ↔ (self.now.room ≡ true) }
     {
-        self.entries.capacity() - self.entries.len() >= MOST_LINES
+        has_memory(&self.workings, &self.spare)
     }
 
     /// The thread that processor `p` has.
     pub fn running(&self, p: u32) -> Option<Tid>
         ensures { result ≡ running self.now.state.rows p }
     {
-        match self.phase {
-            Phase::OnProcessor if p == 0 => Some(Tid(1)),
-            _ => None,
-        }
+        self.workings.services.running(p)
     }
 
     /// Processor `p` takes the best ready thread. The answer is None exactly where that isn't legal.
@@ -144,18 +132,20 @@ impl Book {
         ensures made { IfSome result (λ t. Makes self.old self.new (event.Dispatch p)) }
         ensures thread { IfSome result (λ t. running self.new.state.rows p ≡ Some t) }
         ensures none { IfNone result ((made_by self.old.script self.old.workers self.old.state (event.Dispatch p) ≡ None) × (self.new ≡ self.old)) }
-        ensures taken { p < self.old.workers → running self.old.state.rows p ≡ None → IsSome result }
+        ensures taken { p < self.old.workers → running self.old.state.rows p ≡ None → IsSome (best self.old.state.rows row.Ready) → IsSome result }
     {
-        one_thread_is_dispatched();
-        one_thread_stops();
-        match self.phase {
-            Phase::Ready if p == 0 => {
-                write(&mut self.entries, Who::Proc(p), What::Run(Tid(1)));
-                self.phase = Phase::OnProcessor;
-                self.slice = 8;
-                Some(Tid(1))
+        if p >= self.workers {
+            return None;
+        }
+        stacks_stand_after_events();
+        remainders_change_with_stacks();
+        states_stay_canonical();
+        match self.workings.services.dispatch(p) {
+            None => None,
+            Some(t) => {
+                write(&mut self.workings.entries, Who::Proc(p), What::Run(t));
+                Some(t)
             }
-            _ => None,
         }
     }
 
@@ -165,54 +155,59 @@ impl Book {
         requires runs { IsSome (running self.old.state.rows p) }
         ensures { Makes self.old self.new (event.Turn p) }
     {
-        let _ = p;
-        turns_leave_one_thread();
-        let ended = make_turn(
+        let Some(t) = self.workings.services.running(p) else {
+            unreachable!()
+        };
+        turns_find_what_they_ask();
+        threads_have_frames_and_places();
+        stacks_stand_after_events();
+        remainders_change_with_stacks();
+        stacks_go_on_standing();
+        states_stay_canonical();
+        counts_rise_with_the_lines();
+        let left = turn_in_place(&mut self.workings, &self.lines, &mut self.stacks, t);
+        settle(
+            left,
+            t,
             &self.lines,
-            &mut self.stack,
-            &mut self.shared,
-            &mut self.notes,
+            &self.workings.services,
+            &mut self.stacks,
+            &mut self.spare,
         );
-        write_all(&mut self.entries, self.notes.lines());
         self.turns += 1;
-        match ended {
-            None => self.slice = next_slice(self.slice),
-            Some(value) => {
-                write(&mut self.entries, Who::Thread(Tid(1)), What::End(value));
-                self.phase = Phase::Over(value);
-            }
-        }
     }
 
-    /// The clock moves. The answer is false exactly where that isn't legal, which is so as long as no statement waits for a
-    /// time.
+    /// The clock moves. The answer is false exactly where that isn't legal, and then nothing changes.
     pub fn clock(&mut self) -> bool
         requires { IsOpen self.old }
-        ensures never { (result ≡ false) × (made_by self.old.script self.old.workers self.old.state event.Clock ≡ None) }
-        ensures same { self.new ≡ self.old }
+        ensures made { result ≡ true → Makes self.old self.new event.Clock }
+        ensures none { result ≡ false → (made_by self.old.script self.old.workers self.old.state event.Clock ≡ None) × (self.new ≡ self.old) }
     {
-        let _ = &self.phase;
-        one_thread_is_dispatched();
-        false
+        if self.workings.services.some_can_run() {
+            return false;
+        }
+        clocks_find_what_they_ask();
+        stacks_stand_after_events();
+        remainders_change_with_stacks();
+        counts_rise_with_the_lines();
+        match self.workings.services.earliest() {
+            None => false,
+            Some(now) => {
+                move_clock(&mut self.workings, now);
+                true
+            }
+        }
     }
 
     /// The stop that holds, want of memory aside.
     pub fn stop_test(&self) -> Option<Stop>
         ensures value { result ≡ stop_of self.now }
         ensures reached { IsReached self.now }
-        ensures alone { IfSome result IsEndAlone }
     {
-        one_thread_stops();
-        match self.phase {
-            Phase::Over(_) => Some(Stop::Finished),
-            Phase::Ready | Phase::OnProcessor => {
-                if self.entries.len() as u64 >= self.limit {
-                    Some(Stop::Limit)
-                } else {
-                    None
-                }
-            }
-        }
+        let (count, first) = self.workings.services.live();
+        let going = goes_on(&self.workings.services);
+        let full = is_full(self.workings.entries.len(), self.limit);
+        stop_among(count, first, going, full)
     }
 
     /// Stops the machine, for the reason that holds, or for want of memory where none does.
@@ -236,7 +231,7 @@ impl Book {
     pub fn entries(&self) -> &[Entry]
         ensures { result.now ≡ self.now.entries }
     {
-        self.entries.as_slice()
+        self.workings.entries.as_slice()
     }
 
     /// How many of the events were turns.
@@ -252,8 +247,9 @@ impl Book {
         ensures value { result ≡ get self.now.state.shared name.0 }
         ensures declared { is_some result ≡ has (declared_values self.now.script.items) name.0 }
     {
-        shared_names_fit();
-        let shared = &self.shared;
+        let shared = &self.workings.shared;
+        names_fit();
+        shared_variables_stay_declared();
         if name.0 as usize >= NAMES {
             return None;
         }
@@ -271,13 +267,15 @@ impl Book {
     {
         let Book {
             lines,
-            entries,
+            workings,
+            workers,
             stopped,
             ..
         } = self;
+        let Workings { entries, .. } = workings;
         match stopped {
             Some(stop) => Journal {
-                workers: 1,
+                workers,
                 script: lines.into_script(),
                 entries: Items::from_vec(entries),
                 stop,

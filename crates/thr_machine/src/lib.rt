@@ -2,7 +2,9 @@
 #![tactic(auto)]
 
 pub mod book;
+mod memory;
 mod opening;
-mod turn;
-pub mod unbuilt;
+mod ready;
+mod stepping;
+mod stopping;
 mod writing;

@@ -1,10 +1,10 @@
 //! Lines of a history as they are written.
 
 ghost use Rattle.std.specs.Prelude.{◌≡◌, ◌<◌, ◌≤◌, ◌+◌, [], ◌∷◌, ◌++◌, length, vec_len, vec_capacity};
-ghost use Rattle.thr_alone.specs.OneTurn.{own_lines};
+ghost use Rattle.thr_model.specs.Turns.{gift_lines};
 
 use thr_values::history::{Entry, What, Who};
-use thr_values::number::Tid;
+use thr_values::number::{NameId, Tid};
 
 /// Writes a line, for which there is room.
 pub fn write(entries: &mut Vec<Entry>, who: Who, what: What)
@@ -16,14 +16,15 @@ pub fn write(entries: &mut Vec<Entry>, who: Who, what: What)
     entries.push_reserved(Entry { who, what });
 }
 
-/// Writes the lines of thread 1, for which there is room.
-pub fn write_all(entries: &mut Vec<Entry>, lines: &[What])
-    requires { vec_len entries.old + length lines.now ≤ vec_capacity entries.old }
-    ensures items { entries.new.items ≡ entries.old.items ++ own_lines lines.now }
-    ensures len { vec_len entries.new ≡ vec_len entries.old + length lines.now }
+/// Writes the lines of threads that were given a mutex, for which there is room.
+pub fn write_gifts(entries: &mut Vec<Entry>, gifts: &[(Tid, Option<NameId>)])
+    requires { vec_len entries.old + length gifts.now ≤ vec_capacity entries.old }
+    ensures items { entries.new.items ≡ entries.old.items ++ gift_lines gifts.now }
+    ensures len { vec_len entries.new ≡ vec_len entries.old + length gifts.now }
     ensures capacity { vec_capacity entries.new ≡ vec_capacity entries.old }
 {
-    for what in lines {
-        write(entries, Who::Thread(Tid(1)), *what);
+    for gift in gifts {
+        let (t, m) = *gift;
+        write(entries, Who::Thread(t), What::Gift(m));
     }
 }

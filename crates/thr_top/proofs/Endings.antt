@@ -1,26 +1,20 @@
 -- How runs end.
-use Rattle.std.proofs.Common.{◌≡◌, ◌<◌, ℕ, Bool, true, false, List, [], ◌∷◌, ◌++◌, length, length-append, refl, sym, ap, ◌∙◌, subst, arith, append-nil, inl, inr}
-use Rattle.std.proofs.lemmas.Bool.Decides.{nat_tests}
-use Rattle.std.specs.Prelude.{Option, Some, None, IfSome, nat_le, ◌⊎◌}
+use Rattle.std.proofs.Common.{◌≡◌, ◌<◌, ◌≤◌, ◌^◌, ℕ, List, [], ◌∷◌, refl, sym, ap, ◌∙◌, subst, arith, append-nil, inl, inr}
+use Rattle.std.proofs.lemmas.Fmt.{decimal_injective}
+use Rattle.std.specs.Prelude.{Option, Some, None, IfSome, codes, ◌⊎◌}
+use Rattle.std.specs.Fmt.{decimal}
 use Rattle.std.specs.Io.KnownBytes.{Appends}
-use Rattle.thr_values.specs.declared.number.Tid.{Tid}
-use Rattle.thr_values.specs.declared.event.Event.{Event}
 use Rattle.thr_values.specs.declared.event.Stop.{Stop}
-use Rattle.thr_values.specs.declared.event.Stop.TheVariants as stops
 use Rattle.thr_values.specs.declared.history.Entry.{Entry}
 use Rattle.thr_syntax.specs.declared.tree.Script.{Script}
 use Rattle.thr_wire.specs.Bytes.{TookMoreThan, TookAll}
 use Rattle.thr_text.specs.Reading.{Formed}
-use Rattle.thr_model.specs.States.{State}
-use Rattle.thr_model.specs.Histories.{Legal, limit_of, stop_with, stop_at}
+use Rattle.thr_model.specs.Histories.{Legal}
 use Rattle.thr_laws.specs.CallsOnce.{CallsOnce}
 use Rattle.thr_laws.specs.CancelLaw.{CancelLaw}
 use Rattle.thr_laws.specs.Owners.{OneOwner}
 use Rattle.thr_laws.specs.Routed.{Routed}
-use Rattle.thr_machine.specs.Views.{BookView}
-use Rattle.thr_machine.specs.Books.{Makes, RoomOnly, IsEndAlone, stop_of}
-use Rattle.thr_top.specs.Driving.{IsGoing, IsAtEnd, room_of}
-use Rattle.thr_top.specs.Answers.{IsRunStatus, MeetsLaws, Refuses, RunAnswers, CheckAnswers, Ends, answered, unread, no_memory, not_run, not_checked, whole, max_script}
+use Rattle.thr_top.specs.Answers.{IsRun, IsRunStatus, MeetsLaws, Refuses, RunAnswers, CheckAnswers, Ends, answered, unread, no_memory, not_run, not_checked, whole, max_script}
 
 gains-nothing : (o : Option (List ℕ)) → Appends o o []
 gains-nothing None = tt
@@ -32,16 +26,16 @@ ends-no-memory Answers old none = answered 5 [] none (whole refl (gains-nothing 
 pub ends-unread : (Answers : ℕ → List ℕ → Type 0) (old : Option (List ℕ)) → Ends Answers old old 3
 ends-unread Answers old = unread refl (gains-nothing old)
 
-pub no-memory-run : (input : List ℕ) → RunAnswers 1 input 5 []
-no-memory-run input = not_run (no_memory refl refl)
+pub no-memory-run : (n : ℕ) (input : List ℕ) → RunAnswers n input 5 []
+no-memory-run n input = not_run (no_memory refl refl)
 
 pub no-memory-check : (input : List ℕ) → CheckAnswers input 5 []
 no-memory-check input = not_checked (no_memory refl refl)
 
 -- An input that is refused for itself, by either command.
-pub run-refused : (input : List ℕ) (old new : Option (List ℕ)) (status : ℕ) → Ends (Refuses input) old new status → Ends (RunAnswers 1 input) old new status
-run-refused input old new status (unread e a) = unread e a
-run-refused input old new status (answered w t r x) = answered w t (not_run r) x
+pub run-refused : (n : ℕ) (input : List ℕ) (old new : Option (List ℕ)) (status : ℕ) → Ends (Refuses input) old new status → Ends (RunAnswers n input) old new status
+run-refused n input old new status (unread e a) = unread e a
+run-refused n input old new status (answered w t r x) = answered w t (not_run r) x
 
 pub check-refused : (input : List ℕ) (old new : Option (List ℕ)) (status : ℕ) → Ends (Refuses input) old new status → Ends (CheckAnswers input) old new status
 check-refused input old new status (unread e a) = unread e a
@@ -63,39 +57,7 @@ told-long None now P t p = tt
 told-long (Some before) None P t p = absurd t
 told-long (Some before) (Some now) P t p = p before (omega arith)
 
--- ---- a book that stops
-
-pub at-end : (b after : BookView) (why : Stop) → IsEndAlone why → after ≡ record b { stopped = Some why } → IsAtEnd after
-at-end b after why alone is = record { why = why; stopped = ap (λ (v : BookView). v.stopped) is; alone = alone }
-
--- the stop of the journal is the one with which the book stopped
-pub same-stop : (b : BookView) (stop : Stop) → IsAtEnd b → b.stopped ≡ Some stop → IsEndAlone stop
-same-stop b stop end is = subst (λ (o : Option Stop). IfSome o IsEndAlone) (sym end.stopped ∙ is) end.alone
-
--- ---- one event more
-
-none-full : (ts : List Tid) (going full : Bool) → stop_with ts going full ≡ None → full ≡ false
-none-full [] going full e = absurd (cc)
-none-full (t ∷ ts) false full e = absurd (cc)
-none-full (t ∷ ts) true false e = refl
-none-full (t ∷ ts) true true e = absurd (cc)
-
-below-limit : (s : Script) (st : State) (count : ℕ) → stop_at s st count ≡ None → count < limit_of s
-unfolding stop_at
-below-limit s st count e = let open_ : nat_le (limit_of s) count ≡ false = none-full _ _ _ e in grind (arith, nat_tests)
-
--- a book that no stop holds in still goes on after an event, nearer to the limit
-pub goes-further : (old mid new : BookView) (e : Event) → IsGoing old → None ≡ stop_of old → RoomOnly old mid → Makes mid new e → IsGoing new × (room_of new < room_of old)
-goes-further old mid new e going open_ same m =
-    let script : new.script ≡ old.script = ap (λ (b : BookView). b.script) m.after ∙ ap (λ (b : BookView). b.script) same in
-    let lines : new.entries ≡ old.entries ++ m.made.lines = ap (λ (b : BookView). b.entries) m.after ∙ ap (λ (b : BookView). b.entries ++ m.made.lines) same in
-    let less : length old.entries < limit_of old.script = below-limit old.script old.state (length old.entries) (sym open_) in (
-      record {
-        workers = ap (λ (b : BookView). b.workers) m.after ∙ ap (λ (b : BookView). b.workers) same ∙ going.workers;
-        going = ap (λ (b : BookView). b.stopped) m.after ∙ ap (λ (b : BookView). b.stopped) same ∙ going.going;
-      },
-      omega (arith, less, ap limit_of script, ap length lines, length-append old.entries m.made.lines, m.some),
-    )
+-- ---- what a run meets
 
 -- A legal history of a script that keeps the rules meets the laws, where each law says so.
 pub laws-of : ((s : Script) (n : ℕ) (es : List Entry) (stop : Stop) → Formed s → Legal s n es stop → Routed s es) → ((s : Script) (n : ℕ) (es : List Entry) (stop : Stop) → Legal s n es stop → OneOwner es)
@@ -115,3 +77,38 @@ pub finishes-well : (status : ℕ) → (status ≡ 0) ⊎ ((status ≡ 5) ⊎ (s
 finishes-well status (inl e) never = inl e
 finishes-well status (inr (inl e)) never = inr e
 finishes-well status (inr (inr e)) never = absurd (never e)
+
+-- ---- how many workers are asked for
+
+second : List (List ℕ) → List ℕ
+second [] = []
+second (a ∷ []) = []
+second (a ∷ b ∷ cs) = b
+
+same-text : (words : List (List ℕ)) (a b : List ℕ) → words ≡ codes "run" ∷ a ∷ [] → words ≡ codes "run" ∷ b ∷ [] → a ≡ b
+unfolding second
+same-text words a b e f = ap second (sym e ∙ f)
+
+-- The words ask for one number of workers.
+pub one-number : (words : List (List ℕ)) (n m : ℕ) → IsRun words n → IsRun words m → n ≡ m
+one-number words n m h g = decimal_injective n m (fits n h.few) (fits m g.few) (same-text words (decimal n) (decimal m) h.so g.so)
+  where
+    fits : (k : ℕ) → k ≤ 16 → k < 2 ^ 64
+    fits k h = omega arith
+
+-- What holds for the number that was read holds for each that the words ask for.
+pub for-its-number : (words : List (List ℕ)) (n : ℕ) (P : ℕ → Type 0) → IsRun words n → P n → (m : ℕ) → IsRun words m → P m
+for-its-number words n P h p m g = subst P (one-number words n m h g) p
+
+-- words of two, the second of which is no number from 1 to 16 or the first of which isn't `run`
+pub no-number : (a b : List ℕ) → ((n : ℕ) → 1 ≤ n → n ≤ 16 → b ≡ decimal n → ⊥) → ((n : ℕ) × IsRun (a ∷ b ∷ []) n) → ⊥
+unfolding second
+no-number a b none asked = none asked.0 asked.1.some asked.1.few (ap second asked.1.so)
+
+first : List (List ℕ) → List ℕ
+first [] = []
+first (a ∷ as) = a
+
+pub other-word : (a b : List ℕ) → (a ≡ codes "run" → ⊥) → ((n : ℕ) × IsRun (a ∷ b ∷ []) n) → ⊥
+unfolding first
+other-word a b no asked = no (ap first asked.1.so)

@@ -14,20 +14,26 @@ use Rattle.thr_laws.specs.CallsOnce.{CallsOnce}
 use Rattle.thr_laws.specs.CancelLaw.{CancelLaw}
 use Rattle.thr_laws.specs.Owners.{OneOwner}
 use Rattle.thr_laws.specs.Routed.{Routed}
-use Rattle.thr_machine.specs.Built.{first_unbuilt}
 use Rattle.thr_model.specs.Histories.{Legal}
 
 -- ---- the words of the commands that are built
 
-abbrev pub IsRunOne : List (List ℕ) → Type 0
-IsRunOne words = words ≡ codes "run" ∷ codes "1" ∷ []
+-- The words ask to run a script on so many workers, from 1 to 16.
+pub record IsRun (words : List (List ℕ)) (workers : ℕ) : Type 0 where
+  pub some : 1 ≤ workers
+  pub few : workers ≤ 16
+  pub so : words ≡ codes "run" ∷ decimal workers ∷ []
+
+-- The words ask to run a script.
+abbrev pub AsksRun : List (List ℕ) → Type 0
+AsksRun words = (workers : ℕ) × IsRun words workers
 
 abbrev pub IsCheck : List (List ℕ) → Type 0
 IsCheck words = words ≡ codes "check" ∷ []
 
 -- The words have a form that is built.
 abbrev pub IsCommand : List (List ℕ) → Type 0
-IsCommand words = IsRunOne words ⊎ IsCheck words
+IsCommand words = AsksRun words ⊎ IsCheck words
 
 -- ---- texts and statuses
 
@@ -42,9 +48,9 @@ status_of (stops.Deadlock n t) = 6
 status_of stops.Limit = 7
 status_of stops.Memory = 5
 
--- A run of one thread ends with one of these: its thread ended, the lines came to the limit, or memory was wanting.
+-- A run ends with one of these: all threads ended, nothing could go on, the lines came to the limit, or memory was wanting.
 abbrev pub IsRunStatus : ℕ → Type 0
-IsRunStatus status = (status ≡ 0) ⊎ ((status ≡ 7) ⊎ (status ≡ 5))
+IsRunStatus status = (status ≡ 0) ⊎ ((status ≡ 6) ⊎ ((status ≡ 7) ⊎ (status ≡ 5)))
 
 -- A text of one line.
 abbrev pub one_line : List ℕ → List ℕ
@@ -56,9 +62,6 @@ usage = one_line (codes "usage: dcethr run W | check | verify | report | make N 
 -- The fault of this number at this line.
 abbrev pub refusal : ℕ → ℕ → List ℕ
 refusal number line = one_line (codes "refused F" ++ (decimal number ++ (codes " line " ++ decimal line)))
-
-abbrev pub unbuilt : ℕ → List ℕ
-unbuilt line = one_line (codes "refused not built line " ++ decimal line)
 
 -- ---- answers
 
@@ -83,11 +86,8 @@ pub data Refuses (input : List ℕ) (status : ℕ) (written : List ℕ) : Type 0
 -- This status and this text answer `run` with so many workers on this input.
 pub data RunAnswers (workers : ℕ) (input : List ℕ) (status : ℕ) (written : List ℕ) : Type 0 where
   -- The journal of a legal history of the script, which meets the laws, with the status of its stop.
-  ran : (s : Script) (entries : List Entry) (stop : Stop) → length input ≤ max_script → Reads input s → first_unbuilt s ≡ None → Legal s workers entries stop
+  ran : (s : Script) (entries : List Entry) (stop : Stop) → length input ≤ max_script → Reads input s → Legal s workers entries stop
       → MeetsLaws s entries stop → stop ≢ stops.Memory → status ≡ status_of stop → written ≡ text s workers entries stop → RunAnswers workers input status written
-  -- The first line of the canonical text that the machine doesn't run yet.
-  not_built : (s : Script) (line : ℕ) → length input ≤ max_script → Reads input s → first_unbuilt s ≡ Some line
-      → status ≡ 2 → written ≡ unbuilt line → RunAnswers workers input status written
   not_run : Refuses input status written → RunAnswers workers input status written
 
 -- This status and this text answer `check` on this input.
@@ -108,7 +108,3 @@ pub data Ends (Answers : ℕ → List ℕ → Type 0) (old new : Option (List �
 -- The input is the text of a script.
 abbrev pub IsScript : List ℕ → Type 0
 IsScript input = (length input ≤ max_script) × ((s : Script) × Reads input s)
-
--- The input is the text of a script that the machine runs.
-abbrev pub IsRun : List ℕ → Type 0
-IsRun input = (length input ≤ max_script) × ((s : Script) × Reads input s × (first_unbuilt s ≡ None))

@@ -3,12 +3,11 @@
 ghost use Rattle.std.specs.Prelude.{◌≡◌, ◌≢◌, ◌++◌, IfOk, codes, string_bytes};
 ghost use Rattle.std.specs.Fmt.{decimal};
 ghost use Rattle.thr_wire.specs.Causes.{Rose};
-ghost use Rattle.thr_top.specs.Answers.{Writes, refusal, unbuilt};
+ghost use Rattle.thr_top.specs.Answers.{Writes, refusal};
 
 use crate::command::Status;
 use std::alloc::{AllocError, Global};
 use thr_text::fault::Place;
-use thr_values::number::Line;
 use thr_wire::whole::write_all;
 use thr_wire::wire::Sink;
 
@@ -32,12 +31,4 @@ pub fn refusal(alloc: Global, place: Place) -> Result<String, AllocError>
     let mut text = format!(in alloc; "refused F{number} line {line}")?;
     text.push_str("\n")?;
     Ok(text)
-}
-
-/// What is written for a line that the machine doesn't run yet.
-pub fn unbuilt(alloc: Global, line: Line) -> Result<String, AllocError>
-    ensures { IfOk result (λ s. string_bytes s ≡ unbuilt line.0) }
-{
-    let Line(line) = line;
-    format!(in alloc; "refused not built line {line}\n")
 }

@@ -5,7 +5,7 @@ ghost use Rattle.thr_wire.specs.Bytes.{TookAtMost, TookMoreThan};
 ghost use Rattle.thr_wire.specs.Causes.{Rose};
 ghost use Rattle.thr_text.specs.Faults.{first_of};
 ghost use Rattle.thr_text.specs.Reading.{Reads, faults};
-ghost use Rattle.thr_top.specs.Answers.{IsRunOne, IsCheck, IsScript, Refuses, CheckAnswers, Ends, Writes, max_script, usage};
+ghost use Rattle.thr_top.specs.Answers.{AsksRun, IsCheck, IsScript, Refuses, CheckAnswers, Ends, Writes, max_script, usage};
 
 use crate::answer::{give, refusal};
 use crate::command::{Status, Word, asks_check};
@@ -71,7 +71,7 @@ pub fn plain_top<S: Source, K: Sink>(
     source: &mut S,
     sink: &mut K,
 ) -> Status
-    requires { ¬ (IsRunOne words.now) }
+    requires { ¬ (AsksRun words.now) }
     // Words of no form get the usage line, and nothing is read.
     ensures usage { ¬ (IsCheck words.now) → Writes (K.held sink.old) (K.held sink.new) result.0 1 usage }
     ensures only_usage { result.0 ≡ 1 → ¬ (IsCheck words.now) }

@@ -1,8 +1,10 @@
 //! The words that the program is given, and the status that it ends with.
 
-ghost use Rattle.std.specs.Prelude.{◌≡◌, ◌↔◌, IsTrue, string_bytes};
-ghost use Rattle.thr_top.specs.Answers.{IsRunOne, IsCheck};
+ghost use Rattle.std.specs.Prelude.{◌≡◌, ◌≢◌, ◌≤◌, ◌↔◌, ℕ, IsTrue, MatchOption, string_bytes};
+ghost use Rattle.std.specs.Fmt.{decimal};
+ghost use Rattle.thr_top.specs.Answers.{IsRun, AsksRun, IsCheck};
 
+use itoa::Buffer;
 use std::marker::Model;
 
 /// What the program ends with (README.md, "Statuses").
@@ -37,13 +39,31 @@ impl Word {
     }
 }
 
-/// Whether the words ask for a command that runs a script on workers: so far `run 1` alone.
-pub fn needs_workers(words: &[Word]) -> bool
-    ensures { IsTrue result ↔ IsRunOne words.now }
+/// The number from 1 to 16 that is written in the word as the program writes numbers, if one is.
+fn number_of(word: &Word) -> Option<u32>
+    ensures { MatchOption result ((n : ℕ) → 1 ≤ n → n ≤ 16 → word.now ≢ decimal n) (λ n. (1 ≤ n) × (n ≤ 16) × (word.now ≡ decimal n)) }
+{
+    let mut buffer = Buffer::new();
+    for n in 1..17u32 {
+        if word.is(buffer.format(n)) {
+            return Some(n);
+        }
+    }
+    None
+}
+
+/// On how many workers the words ask to run a script, if they do.
+pub fn workers_of(words: &[Word]) -> Option<u32>
+    ensures { MatchOption result (¬ (AsksRun words.now)) (IsRun words.now) }
 {
     match words {
-        [run, one] => run.is("run") && one.is("1"),
-        _ => false,
+        [run, workers] => {
+            if !run.is("run") {
+                return None;
+            }
+            number_of(workers)
+        }
+        _ => None,
     }
 }
 

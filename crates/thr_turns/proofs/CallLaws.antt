@@ -21,7 +21,7 @@ use Rattle.thr_model.specs.Turns.{Made, thread_line, gift_lines, after_reply, st
 use Rattle.thr_services.specs.declared.answer.Answer.{Answer}
 use Rattle.thr_services.specs.Views.{ServicesView, state_with}
 use Rattle.thr_services.specs.Answers.{Answers, begun}
-use Rattle.thr_alone.specs.OneTurn.{values_in}
+use Rattle.thr_shared.specs.Shared.{values_in}
 use Rattle.thr_frames.specs.Stacks.{StackView, remainder_of, setting_of, IsRoutine, IsNextCall}
 use Rattle.thr_turns.specs.declared.workings.Left.{Left}
 use Rattle.thr_turns.specs.declared.workings.Left.TheVariants.{Goes}

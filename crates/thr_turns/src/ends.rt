@@ -14,7 +14,7 @@ ghost use Rattle.thr_model.specs.Turns.{shared_made, delivery_made, undoing_made
 ghost use Rattle.thr_services.specs.Ready.{OwersStand};
 ghost use Rattle.thr_services.specs.Sound.{IsSound};
 ghost use Rattle.thr_frames.specs.Stacks.{remainder_of, setting_of, IsStack, IsRoutine, CanNumber};
-ghost use Rattle.thr_alone.specs.OneTurn.{values_in, with_written};
+ghost use Rattle.thr_shared.specs.Shared.{values_in, with_written};
 ghost use Rattle.thr_turns.specs.declared.workings.Left.TheVariants.{Goes};
 ghost use Rattle.thr_turns.specs.Steps.{HasMoved, Steps, Keeps};
 

@@ -4,9 +4,9 @@ ghost use Rattle.std.specs.Prelude.{◌≡◌, ◌<◌, IfSome};
 ghost use Rattle.thr_parts.specs.Tables.{names};
 ghost use Rattle.thr_model.specs.States.{with_writes};
 ghost use Rattle.thr_frames.specs.Replies.{listed_writes};
-ghost use Rattle.thr_alone.specs.OneTurn.{with_written};
+ghost use Rattle.thr_shared.specs.Shared.{with_written};
 
-use thr_alone::SharedVariables;
+use thr_shared::SharedVariables;
 use thr_frames::reply::Writes;
 use thr_values::number::NameId;
 

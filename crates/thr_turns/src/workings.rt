@@ -1,6 +1,6 @@
 //! What a turn works on, and what it leaves of its thread.
 
-use thr_alone::SharedVariables;
+use thr_shared::SharedVariables;
 use thr_services::{Gifts, Services};
 use thr_stack::notes::Notes;
 use thr_syntax::tree::Interface;

@@ -6,13 +6,13 @@ use Rattle.thr_top.proofs.Endings.{ends-no-memory, no-memory-run}
 use Rattle.thr_top.proofs.top.run_script.Goals as goal
 
 pub returns-in_default-clause-ends : goal.returns-in_default-clause-ends
-returns-in_default-clause-ends g c = λ input short reads. ends-no-memory (RunAnswers 1 input) _ (no-memory-run input)
+returns-in_default-clause-ends g c = λ input short reads. ends-no-memory (RunAnswers c.args.workers input) _ (no-memory-run c.args.workers input)
 
 pub returns-in_default-print-clause-ends : goal.returns-in_default-print-clause-ends
-returns-in_default-print-clause-ends g c = λ input short reads. ends-no-memory (RunAnswers 1 input) _ (no-memory-run input)
+returns-in_default-print-clause-ends g c = λ input short reads. ends-no-memory (RunAnswers c.args.workers input) _ (no-memory-run c.args.workers input)
 
 pub returns-clause-ends : goal.returns-clause-ends
 returns-clause-ends g c = λ input short reads.
-    answered _ _ (ran c.args.script c.in-Ok.journal.entries c.in-Ok.journal.stop short reads c.requires.built c.in-Ok.ensures.legal c.in-Ok.ensures.laws c.status_of.ensures.memory c.status_of.ensures.status
+    answered _ _ (ran c.args.script c.in-Ok.journal.entries c.in-Ok.journal.stop short reads c.in-Ok.ensures.legal c.in-Ok.ensures.laws c.in-Ok.ensures.stop c.status_of.ensures.status
     (c.as_slice.ensures.value ∙ c.in-Ok-print.ensures ∙ ap (λ (s : Script). text s c.in-Ok.journal.workers c.in-Ok.journal.entries c.in-Ok.journal.stop) c.in-Ok.ensures.same.0
     ∙ ap (λ (w : ℕ). text c.args.script w c.in-Ok.journal.entries c.in-Ok.journal.stop) c.in-Ok.ensures.same.1)) c.give.ensures.written

@@ -1,45 +1,64 @@
-use Rattle.std.proofs.Common.{[], ◌∷◌, rules, subst, refl, sym, ◌∙◌, arith}
-use Rattle.std.proofs.lemmas.Grind.{common_steps}
-use Rattle.std.specs.Prelude.{vec_len}
+use Rattle.std.proofs.Common.{◌≡◌, refl, sym, ◌∙◌, ap, subst, Some}
 use Rattle.thr_values.specs.declared.event.Event.TheVariants as event
-use Rattle.thr_parts.specs.Rows.{thread}
-use Rattle.thr_model.specs.Events.{run_line}
-use Rattle.thr_alone.specs.OneThread.{Running}
-use Rattle.thr_alone.proofs.OneThreadLaws.{running-is}
-use Rattle.thr_machine.specs.Views.{BookView}
-use Rattle.thr_machine.specs.Books.{view_of, Makes}
-use Rattle.thr_machine.specs.declared.book.Phase.TheVariants as phase
+use Rattle.thr_parts.specs.Tables.{none}
+use Rattle.thr_parts.specs.Rows.{Rows}
+use Rattle.thr_parts.specs.Dispatch.{running}
+use Rattle.thr_model.specs.States.{State}
+use Rattle.thr_services.specs.Views.{ServicesView}
+use Rattle.thr_turns.specs.declared.workings.Workings.{Workings}
+use Rattle.thr_machine.specs.Books.{view_of, state_of}
 use Rattle.thr_machine.specs.declared.book.Book.TheInside.{Inside}
-use Rattle.thr_machine.proofs.Steps.{makes-event, kept-next, more-lines, is-open, book-takes, runs-here, not-taken-elsewhere, not-taken-again, book-runs}
+use Rattle.thr_machine.proofs.Keeping.{FollowStacks, is-open, execution_of}
+use Rattle.thr_machine.proofs.Dispatching.{dispatch-not, dispatch-outside, dispatched-runs}
+use Rattle.thr_machine.proofs.BookEvents.{dispatch-event, book-dispatch, not-made, makes-in}
 use Rattle.thr_machine.proofs.book.Book.dispatch.Goals as goal
 
-pub invariant_of-self : goal.invariant_of-self
-invariant_of-self c =
-    let after : Inside = record c.self.inside { entries = c.write.new.entries; phase = phase.OnProcessor; slice = 8 } in
-    let open_ = is-open c.self.inside c.args.self.now c.self.view_is c.requires in
-    kept-next c.self.inside after (event.Dispatch c.args.p) c.self.invariant open_.0 open_.1
-    (makes-event c.self.inside after (event.Dispatch c.args.p) (run_line c.args.p (thread 1) ∷ [])
-    (book-takes c.one_thread_is_dispatched.ensures.taken _ _ c.args.p _ _ _ c.in-Ready.is c.if-p-eq0.true) (omega arith) (omega arith) refl refl c.write.ensures.items (omega arith))
-    refl refl refl (more-lines _ _ (vec_len c.self.inside.entries) (vec_len c.write.new.entries) (omega (arith, c.write.ensures.len)) c.self.invariant.thread) c.self.invariant.declared
-    (grind (arith, common_steps))
+pub returns-then-p-self-clause-none : goal.returns-then-p-self-clause-none
+returns-then-p-self-clause-none c =
+    let a : Inside = c.self.inside in
+    (not-made a c.args.self.now (event.Dispatch c.args.p) c.self.view_is (dispatch-outside a.lines a.workers c.args.p (state_of a.lines a.workings a.stacks) c.if-p-self.true), refl)
 
-pub returns-in-Ready-clause-made : goal.returns-in-Ready-clause-made
-returns-in-Ready-clause-made c =
-    let after : Inside = record c.self.inside { entries = c.write.new.entries; phase = phase.OnProcessor; slice = 8 } in
-    subst (λ (b : BookView). Makes b (view_of after) (event.Dispatch c.args.p)) c.self.view_is
-    (makes-event c.self.inside after (event.Dispatch c.args.p) (run_line c.args.p (thread 1) ∷ [])
-    (book-takes c.one_thread_is_dispatched.ensures.taken _ _ c.args.p _ _ _ c.in-Ready.is c.if-p-eq0.true) (omega arith) (omega arith) refl refl c.write.ensures.items (omega arith))
+pub invariant_of-self-in-Some : goal.invariant_of-self-in-Some
+invariant_of-self-in-Some c =
+    let a : Inside = c.self.inside in
+    let w : Workings = record a.workings { services = c.dispatch.new.self; entries = c.write.new.entries } in
+    let x = execution_of (view_of a) c.self.invariant.reached in
+    let follow : FollowStacks a.lines = record {
+      put_left = c.remainders_change_with_stacks.ensures.put a.lines;
+      cut_left = c.remainders_change_with_stacks.ensures.cut a.lines;
+      get_left = c.remainders_change_with_stacks.ensures.get a.lines;
+      has_left = c.remainders_change_with_stacks.ensures.has a.lines;
+    } in
+    (book-dispatch a c.args.p c.in-Some.t w c.self.invariant (is-open a c.args.self.now c.self.view_is c.requires) follow
+    (λ made is. c.stacks_stand_after_events.ensures a.lines a.workers x c.self.invariant.reached.history (event.Dispatch c.args.p) made is)
+    (dispatch-event a w c.args.p c.in-Some.t c.if-p-self.false c.in-Some.ensures.taken c.in-Some.ensures.state refl) c.write.ensures.items refl c.write.ensures.len).1
 
-pub returns-in-Ready-clause-thread : goal.returns-in-Ready-clause-thread
-returns-in-Ready-clause-thread c = running-is (Running 0 8) c.args.p ∙ sym (runs-here phase.OnProcessor 8 c.args.p refl c.if-p-eq0.true)
+pub returns-in-None-clause-none : goal.returns-in-None-clause-none
+returns-in-None-clause-none c =
+    let a : Inside = c.self.inside in (
+      not-made a c.args.self.now (event.Dispatch c.args.p) c.self.view_is (dispatch-not a.lines a.workers c.args.p (state_of a.lines a.workings a.stacks) c.if-p-self.false c.in-None.ensures.taken),
+      ap (λ (v : ServicesView). view_of (record a { workings = record a.workings { services = v } })) c.in-None.ensures.none ∙ c.self.view_is,
+    )
 
-pub returns-in_default-clause-none : goal.returns-in_default-clause-none
-returns-in_default-clause-none c = (not-taken-elsewhere c.one_thread_is_dispatched.ensures.taken c.self.inside c.args.self.now c.args.p c.self.view_is c.if-p-eq0.false, refl)
+pub returns-in-Some-clause-made : goal.returns-in-Some-clause-made
+returns-in-Some-clause-made c =
+    let a : Inside = c.self.inside in
+    let w : Workings = record a.workings { services = c.dispatch.new.self; entries = c.write.new.entries } in
+    let x = execution_of (view_of a) c.self.invariant.reached in
+    let follow : FollowStacks a.lines = record {
+      put_left = c.remainders_change_with_stacks.ensures.put a.lines;
+      cut_left = c.remainders_change_with_stacks.ensures.cut a.lines;
+      get_left = c.remainders_change_with_stacks.ensures.get a.lines;
+      has_left = c.remainders_change_with_stacks.ensures.has a.lines;
+    } in
+    makes-in a c.args.self.now _ (event.Dispatch c.args.p) c.self.view_is
+    (book-dispatch a c.args.p c.in-Some.t w c.self.invariant (is-open a c.args.self.now c.self.view_is c.requires) follow
+    (λ made is. c.stacks_stand_after_events.ensures a.lines a.workers x c.self.invariant.reached.history (event.Dispatch c.args.p) made is)
+    (dispatch-event a w c.args.p c.in-Some.t c.if-p-self.false c.in-Some.ensures.taken c.in-Some.ensures.state refl) c.write.ensures.items refl c.write.ensures.len).0
 
-pub returns-in_default-2 : goal.returns-in_default-2
-returns-in_default-2 c = record {
-  made = tt;
-  thread = tt;
-  none = (not-taken-again c.one_thread_is_dispatched.ensures.taken c.self.inside c.args.self.now c.args.p c.self.view_is (search rules), refl);
-  taken = book-runs c.one_thread_stops.ensures c.self.inside c.args.self.now c.args.p c.self.view_is c.requires.no_stop (search rules);
-}
+pub returns-in-Some-clause-thread : goal.returns-in-Some-clause-thread
+returns-in-Some-clause-thread c =
+    let a : Inside = c.self.inside in
+    let x = execution_of (view_of a) c.self.invariant.reached in
+    subst (λ (rs : Rows). running rs c.args.p ≡ Some c.in-Some.t) (ap (λ (st : State). st.rows) (c.in-Some.ensures.state none none))
+    (dispatched-runs a.workings.services.rows c.args.p c.in-Some.t (c.states_stay_canonical.ensures a.lines a.workers x c.self.invariant.reached.history).seats (sym c.in-Some.ensures.taken))

@@ -1,56 +1,77 @@
-use Rattle.std.proofs.Common.{◌≡◌, None, ap, refl, subst, sym, ◌∙◌, pos}
+use Rattle.std.proofs.Common.{◌≡◌, ◌≤◌, None, ap, refl, subst, sym, ◌∙◌}
 use Rattle.thr_syntax.specs.declared.tree.Script.{Script}
 use Rattle.thr_text.specs.Reading.{Formed}
-use Rattle.thr_remainder.specs.Starts.{fresh}
+use Rattle.thr_parts.specs.Tables.{none}
 use Rattle.thr_model.specs.Histories.{limit_in}
-use Rattle.thr_model.specs.States.{opening, main_of, declared_values}
-use Rattle.thr_frames.specs.Stacks.{remainder_of}
-use Rattle.thr_machine.specs.Built.{first_unbuilt}
-use Rattle.thr_machine.specs.Books.{IsFirstStack}
-use Rattle.thr_machine.specs.declared.book.Phase.TheVariants as phase
+use Rattle.thr_model.specs.States.{opening}
+use Rattle.thr_stacks.specs.Stacks.{remainders_of}
+use Rattle.thr_machine.specs.Books.{settings_in}
+use Rattle.thr_machine.specs.Stepping.{OpensOn, HasFirst}
 use Rattle.thr_machine.specs.declared.book.Book.TheInside.{Inside}
-use Rattle.thr_machine.proofs.Steps.{IsNew, keeps-opening, opens-so}
+use Rattle.thr_machine.proofs.Keeping.{FollowStacks, StandOn}
+use Rattle.thr_machine.proofs.OpeningLaws.{IsNew, keeps-opening, opens-so}
 use Rattle.thr_machine.proofs.book.Book.new.Goals as goal
 
-abbrev book : goal.After-new-2 → Inside
+-- A book with these fields is opened on the script.
+is-new : (s : Script) (a : Inside) → a.lines ≡ s → Formed s → a.limit ≡ limit_in s.items → 1 ≤ a.workers → a.workers ≤ 16 → HasFirst a.lines a.stacks → OpensOn s a.workings
+    → FollowStacks a.lines → remainders_of a.lines none ≡ none → a.turns ≡ 0 → a.spare ≡ None → a.stopped ≡ None → IsNew a
+is-new s a same formed limit some few first opens follow nobody turns spare going =
+    let on : OpensOn a.lines a.workings = subst (λ (x : Script). OpensOn x a.workings) (sym same) opens in record {
+      formed = subst Formed (sym same) formed;
+      limit = limit ∙ ap (λ (x : Script). limit_in x.items) (sym same);
+      some = some;
+      few = few;
+      first = first;
+      state = opens-so a.lines a.workings a.stacks follow nobody first on;
+      opens = on;
+      no_turns = turns;
+      no_spare = spare;
+      going = going;
+    }
+
+abbrev book : goal.In_ok-stacks → Inside
 book c = record {
-  lines = c.lines.inside.script;
-  stack = c.in_ok-stack.stack;
-  shared = c.shared.inside.declared;
-  notes = c.in_ok-new.field-0;
-  entries = c.new-2.result;
-  phase = phase.Ready;
-  slice = 8;
+  alloc = c.args.alloc;
+  lines = c.in_ok-lines.lines;
+  workings = c.in_ok-workings.workings;
+  stacks = c.in_ok-stacks.stacks;
+  spare = None;
+  workers = c.args.workers;
   turns = 0;
   limit = c.limit_of-limit.result;
   stopped = None;
 }
 
-is-new : (c : goal.After-new-2) → IsNew (book c)
-is-new c =
-    let same : c.lines.inside.script ≡ c.args.script = c.lines.view_is ∙ c.in_ok-lines.ensures in record {
-      formed = subst Formed (sym same) c.requires.formed;
-      built = subst (λ (s : Script). first_unbuilt s ≡ None) (sym same) c.requires.built;
-      limit = c.limit_of-limit.ensures ∙ ap limit_in c.as_slice.ensures ∙ ap (λ (s : Script). limit_in s.items) (sym same);
-      thread = subst (λ (s : Script). IsFirstStack s c.in_ok-stack.stack 0) (sym c.lines.view_is) c.in_ok-stack.ensures.thread;
-      fresh_stack = subst (λ (s : Script). remainder_of s c.in_ok-stack.stack ≡ fresh s (main_of s) (pos 0)) (sym c.lines.view_is) c.in_ok-stack.ensures.fresh;
-      shared = c.shared.view_is ∙ c.in_ok-shared.ensures ∙ ap (λ (s : Script). declared_values s.items) (sym same);
-      no_lines = c.new-2.ensures.items;
-      ready = refl;
-      no_turns = refl;
-      going = refl;
+follow : (c : goal.In_ok-stacks) → FollowStacks c.in_ok-lines.lines
+follow c =
+    let law = c.remainders_change_with_stacks.ensures in record {
+      put_left = law.put c.in_ok-lines.lines;
+      cut_left = law.cut c.in_ok-lines.lines;
+      get_left = law.get c.in_ok-lines.lines;
+      has_left = law.has c.in_ok-lines.lines;
     }
 
-pub invariant_of-result-3 : goal.invariant_of-result-3
-invariant_of-result-3 c = keeps-opening c.machines_open_with_one_thread.ensures (book c) (is-new c)
+new-book : (c : goal.In_ok-stacks) → IsNew (book c)
+new-book c =
+    is-new c.args.script (book c) c.in_ok-lines.ensures c.requires.formed (c.limit_of-limit.ensures ∙ ap limit_in c.as_slice.ensures) c.requires.some c.requires.few
+    c.in_ok-stacks.ensures c.in_ok-workings.ensures (follow c) (c.remainders_change_with_stacks.ensures.none c.in_ok-lines.lines) refl refl refl
+
+pub invariant_of-result : goal.invariant_of-result
+invariant_of-result c =
+    let law = c.stacks_go_on_standing.ensures in
+    let on : StandOn c.in_ok-lines.lines = record { put_stands = law.put c.in_ok-lines.lines; cut_stands = law.cut c.in_ok-lines.lines } in
+    keeps-opening (book c) (new-book c) on (law.none c.in_ok-lines.lines (settings_in c.in_ok-lines.lines (opening c.in_ok-lines.lines)))
 
 pub returns : goal.returns
 returns c =
-    let same : c.lines.inside.script ≡ c.args.script = c.lines.view_is ∙ c.in_ok-lines.ensures in record {
-      script = same;
-      workers = sym c.requires.one;
-      state = sym (opens-so c.machines_open_with_one_thread.ensures (book c) (is-new c)) ∙ ap opening same;
-      entries = c.new-2.ensures.items;
+    let law = c.remainders_change_with_stacks.ensures in
+    let lines : Script = c.in_ok-lines.lines in
+    let on : OpensOn lines c.in_ok-workings.workings = subst (λ (x : Script). OpensOn x c.in_ok-workings.workings) (sym c.in_ok-lines.ensures) c.in_ok-workings.ensures in
+    let follow : FollowStacks lines = record { put_left = law.put lines; cut_left = law.cut lines; get_left = law.get lines; has_left = law.has lines } in record {
+      script = c.in_ok-lines.ensures;
+      workers = refl;
+      state = opens-so lines c.in_ok-workings.workings c.in_ok-stacks.stacks follow (law.none lines) c.in_ok-stacks.ensures on ∙ ap opening c.in_ok-lines.ensures;
+      entries = c.in_ok-workings.ensures.no_lines;
       turns = refl;
       stopped = refl;
     }

@@ -1,20 +1,20 @@
-use Rattle.std.proofs.Common.{true, false, arith}
-use Rattle.thr_machine.proofs.Steps.{stop-over, book-goes-on, reached-in, is-full, is-not-full}
+use Rattle.std.proofs.Common.{◌≡◌, length, ◌∙◌, ap, subst, rules}
+use Rattle.std.specs.Prelude.{nat_le, vec_len}
+use Rattle.thr_parts.specs.Threads.{live}
+use Rattle.thr_machine.specs.Views.{BookView}
+use Rattle.thr_machine.specs.Books.{state_of, stop_of, IsReached}
+use Rattle.thr_machine.specs.declared.book.Book.TheInside.{Inside}
+use Rattle.thr_machine.proofs.Stops.{stop-is}
 use Rattle.thr_machine.proofs.book.Book.stop_test.Goals as goal
 
-pub returns-in-Over-clause-value : goal.returns-in-Over-clause-value
-returns-in-Over-clause-value c = stop-over c.one_thread_stops.ensures c.self.inside c.args.self.now _ c.self.view_is c.in-Over.is
+pub returns-clause-value : goal.returns-clause-value
+returns-clause-value c =
+    let a : Inside = c.self.inside in
+    let count : c.len.result ≡ length a.workings.entries.items = search rules in
+    subst (λ (b : BookView). c.stop_among.result ≡ stop_of b) c.self.view_is
+    (stop-is a.lines (state_of a.lines a.workings a.stacks) (length a.workings.entries.items) c.stop_among.result c.goes_on-going.result c.is_full-full.result
+    (c.stop_among.ensures (live a.workings.services.threads) (ap (λ p. p.0) c.live-count.ensures) (ap (λ p. p.1) c.live-count.ensures)) c.goes_on-going.ensures
+    (c.is_full-full.ensures ∙ ap (nat_le a.limit) count ∙ ap (λ n. nat_le n (length a.workings.entries.items)) c.self.invariant.limit))
 
-pub returns-then-len-self : goal.returns-then-len-self
-returns-then-len-self c = record {
-  value = book-goes-on c.one_thread_stops.ensures c.self.inside c.args.self.now true c.self.view_is c.in-Ready.is (is-full c.self.inside c.self.invariant.limit (search arith));
-  reached = reached-in c.self.inside c.args.self.now c.self.view_is c.self.invariant.reached;
-  alone = tt;
-}
-
-pub returns-else-len-self : goal.returns-else-len-self
-returns-else-len-self c = record {
-  value = book-goes-on c.one_thread_stops.ensures c.self.inside c.args.self.now false c.self.view_is c.in-Ready.is (is-not-full c.self.inside c.self.invariant.limit (search arith));
-  reached = reached-in c.self.inside c.args.self.now c.self.view_is c.self.invariant.reached;
-  alone = tt;
-}
+pub returns-clause-reached : goal.returns-clause-reached
+returns-clause-reached c = subst IsReached c.self.view_is c.self.invariant.reached

@@ -1,91 +1,106 @@
-use Rattle.std.proofs.Common.{◌≡◌, ◌+◌, ◌++◌, ◌∷◌, [], List, length, subst, refl, ◌∙◌, ap, arith}
+use Rattle.std.proofs.Common.{◌≡◌, length, refl, sym, ◌∙◌, rules}
 use Rattle.std.specs.Prelude.{vec_len}
-use Rattle.std.proofs.lemmas.Int.{to_z-of_z, ints}
-use mir.Val.{SFits, to_z, of_z}
-use mir.Syntax.{w64}
 use Rattle.thr_values.specs.declared.event.Event.TheVariants as event
-use Rattle.thr_values.specs.declared.history.Entry.{Entry}
-use Rattle.thr_values.specs.declared.history.What.{What}
-use Rattle.thr_values.specs.declared.history.What.TheVariants as what
-use Rattle.thr_parts.specs.Rows.{thread}
-use Rattle.thr_model.specs.Turns.{thread_line}
-use Rattle.thr_alone.specs.OneTurn.{own_lines}
-use Rattle.thr_machine.specs.Views.{BookView}
-use Rattle.thr_machine.specs.Books.{view_of, Makes}
-use Rattle.thr_machine.specs.declared.book.Phase.TheVariants as phase
+use Rattle.thr_machine.specs.Books.{view_of, state_of, IsOpen}
+use Rattle.thr_stacks.specs.Stacks.{remainders_of}
 use Rattle.thr_machine.specs.declared.book.Book.TheInside.{Inside}
-use Rattle.thr_machine.proofs.Steps.{makes-event, kept-next, more-lines, is-open, on-processor, pause-made, end-made, own-count, end-count, wrote-own, wrote-end}
+use Rattle.thr_machine.proofs.Keeping.{FollowStacks, StandOn, is-open, execution_of}
+use Rattle.thr_machine.proofs.Turning.{HaveFrames, has-lines, has-spare, has-value, runs-seated, can-turn, can-settle}
+use Rattle.thr_machine.proofs.BookEvents.{TurnLaws, book-turn, makes-in}
 use Rattle.thr_machine.proofs.book.Book.turn.Goals as goal
 
--- ---- the thread goes on
+pub turn_in_place-left-requires-clause-can : goal.turn_in_place-left-requires-clause-can
+turn_in_place-left-requires-clause-can c =
+    let a : Inside = c.self.inside in
+    let o : IsOpen (view_of a) = is-open a c.args.self.now c.self.view_is c.requires.open in
+    let x = execution_of (view_of a) c.self.invariant.reached in
+    let h = c.self.invariant.reached.history in
+    let follow : FollowStacks a.lines = record {
+      put_left = c.remainders_change_with_stacks.ensures.put a.lines;
+      cut_left = c.remainders_change_with_stacks.ensures.cut a.lines;
+      get_left = c.remainders_change_with_stacks.ensures.get a.lines;
+      has_left = c.remainders_change_with_stacks.ensures.has a.lines;
+    } in
+    can-turn a.lines a.workings a.stacks c.args.p c.in-Some.t follow (c.states_stay_canonical.ensures a.lines a.workers x h).seats
+    (c.threads_have_frames_and_places.ensures.seats a.lines a.workers x h) c.self.invariant.stand (sym c.in-Some.ensures) (λ k runs own.
+    c.turns_find_what_they_ask.ensures a.lines a.workers x c.self.invariant.formed h o.no_stop a.workings.services (remainders_of a.lines a.stacks) a.workings.shared refl (has-value a.workings a.spare o.room) c.in-Some.t k runs own)
 
-abbrev after_pause : goal.After-self-in-None-1 → Inside
-after_pause c = record c.self.inside {
-  stack = c.make_turn-ended.new.stack;
-  shared = c.make_turn-ended.new.shared;
-  notes = c.make_turn-ended.new.notes;
-  entries = c.write_all.new.entries;
-  slice = c.next_slice-self-inside.result;
-  turns = c.self.inside.turns + 1;
-}
+pub turn_in_place-left-requires-clause-room : goal.turn_in_place-left-requires-clause-room
+turn_in_place-left-requires-clause-room c = has-lines c.self.inside.workings c.self.inside.spare (is-open c.self.inside c.args.self.now c.self.view_is c.requires.open).room
 
-pauses : (c : goal.After-self-in-None-1) → Makes (view_of c.self.inside) (view_of (after_pause c)) (event.Turn c.args.p)
-pauses c =
-    makes-event c.self.inside (after_pause c) (event.Turn c.args.p) (own_lines c.make_turn-ended.new.notes)
-    (pause-made c.turns_leave_one_thread.ensures.event c.turns_leave_one_thread.ensures.made c.self.inside (after_pause c) c.args.p c.make_turn-ended.new.notes
-    (on-processor c.self.inside c.args.self.now c.args.p c.self.view_is c.requires.runs) c.in-None.ensures.turn refl c.next_slice-self-inside.ensures)
-    (omega (arith, own-count c.make_turn-ended.new.notes, c.in-None.ensures.some refl)) (omega (arith, own-count c.make_turn-ended.new.notes, c.in-None.ensures.few)) refl refl
-    (wrote-own c.self.inside.entries.items c.write_all.new.entries.items c.make_turn-ended.new.notes c.lines.result.now c.write_all.ensures.items c.lines.ensures) refl
+pub settle-requires-clause-can : goal.settle-requires-clause-can
+settle-requires-clause-can c =
+    let a : Inside = c.self.inside in
+    let o : IsOpen (view_of a) = is-open a c.args.self.now c.self.view_is c.requires.open in
+    let x = execution_of (view_of a) c.self.invariant.reached in
+    let h = c.self.invariant.reached.history in
+    let follow : FollowStacks a.lines = record {
+      put_left = c.remainders_change_with_stacks.ensures.put a.lines;
+      cut_left = c.remainders_change_with_stacks.ensures.cut a.lines;
+      get_left = c.remainders_change_with_stacks.ensures.get a.lines;
+      has_left = c.remainders_change_with_stacks.ensures.has a.lines;
+    } in
+    let frames : HaveFrames a.lines a.workers = record {
+      some = c.threads_have_frames_and_places.ensures.some a.lines a.workers;
+      few = c.threads_have_frames_and_places.ensures.few a.lines a.workers;
+      place = c.threads_have_frames_and_places.ensures.place a.lines a.workers;
+    } in
+    can-settle a.lines a.workers c.args.p c.in-Some.t a.workings c.turn_in_place-left.new.workings a.stacks c.turn_in_place-left.new.stacks a.spare x c.turn_in_place-left.result follow frames h o.no_stop refl
+    (c.states_stay_canonical.ensures a.lines a.workers x h).remainders (sym c.in-Some.ensures) c.turn_in_place-left.ensures (has-spare a.workings a.spare o.room)
 
 pub invariant_of-self : goal.invariant_of-self
 invariant_of-self c =
-    let open_ = is-open c.self.inside c.args.self.now c.self.view_is c.requires.open in
-    let count : vec_len c.write_all.new.entries ≡ vec_len c.self.inside.entries + length c.make_turn-ended.new.notes =
-    c.write_all.ensures.len ∙ ap (λ (ls : List What). vec_len c.self.inside.entries + length ls) c.lines.ensures in
-    kept-next c.self.inside (after_pause c) (event.Turn c.args.p) c.self.invariant open_.0 open_.1 (pauses c) refl refl refl
-    (more-lines c.self.inside.lines c.make_turn-ended.new.stack (vec_len c.self.inside.entries + length c.make_turn-ended.new.notes) (vec_len c.write_all.new.entries) (omega (arith, count))
-    (c.in-None.ensures.thread (vec_len c.self.inside.entries) c.self.invariant.thread))
-    (c.in-None.ensures.declared c.self.invariant.declared) (omega (arith, count, c.self.invariant.counted, c.in-None.ensures.some refl))
+    let a : Inside = c.self.inside in
+    let o : IsOpen (view_of a) = is-open a c.args.self.now c.self.view_is c.requires.open in
+    let x = execution_of (view_of a) c.self.invariant.reached in
+    let h = c.self.invariant.reached.history in
+    let canonical = c.states_stay_canonical.ensures a.lines a.workers x h in
+    let follow : FollowStacks a.lines = record {
+      put_left = c.remainders_change_with_stacks.ensures.put a.lines;
+      cut_left = c.remainders_change_with_stacks.ensures.cut a.lines;
+      get_left = c.remainders_change_with_stacks.ensures.get a.lines;
+      has_left = c.remainders_change_with_stacks.ensures.has a.lines;
+    } in
+    let on : StandOn a.lines = record { put_stands = c.stacks_go_on_standing.ensures.put a.lines; cut_stands = c.stacks_go_on_standing.ensures.cut a.lines } in
+    let seat = runs-seated a.workings.services.rows c.args.p c.in-Some.t canonical.seats (sym c.in-Some.ensures) in
+    let laws : TurnLaws a c.args.p c.in-Some.t = record {
+      follow = follow;
+      on = on;
+      rises = canonical.remainders;
+      below = c.threads_have_frames_and_places.ensures.below a.lines a.workers x h c.in-Some.t.0 (c.threads_have_frames_and_places.ensures.seats a.lines a.workers x h c.in-Some.t.0 ∙ seat);
+      lines = λ made is. c.counts_rise_with_the_lines.ensures.lines a.lines a.workers (state_of a.lines a.workings a.stacks) (event.Turn c.args.p) made is;
+      again = λ made is. c.stacks_stand_after_events.ensures a.lines a.workers x h (event.Turn c.args.p) made is;
+    } in
+    let before : vec_len a.workings.entries ≡ length a.workings.entries.items = search rules in
+    let after : vec_len c.turn_in_place-left.new.workings.entries ≡ length c.turn_in_place-left.new.workings.entries.items = search rules in
+    (book-turn a c.args.p c.in-Some.t c.turn_in_place-left.new.workings c.turn_in_place-left.new.stacks c.settle.new.stacks c.settle.new.spare c.turn_in_place-left.result c.self.invariant o laws
+    (sym c.in-Some.ensures) c.turn_in_place-left.ensures c.settle.ensures.stacks c.settle.ensures.spare before after).1
 
-pub returns-in-None : goal.returns-in-None
-returns-in-None c = subst (λ (b : BookView). Makes b (view_of (after_pause c)) (event.Turn c.args.p)) c.self.view_is (pauses c)
-
--- ---- the thread ends
-
-abbrev end_line : goal.After-self-in-Some-1 → Entry
-end_line c = thread_line (thread 1) (what.End c.in-Some.value)
-
-abbrev after_end : goal.After-self-in-Some-1 → Inside
-after_end c = record c.self.inside {
-  stack = c.make_turn-ended.new.stack;
-  shared = c.make_turn-ended.new.shared;
-  notes = c.make_turn-ended.new.notes;
-  entries = c.write.new.entries;
-  phase = phase.Over (to_z w64 (of_z w64 c.in-Some.value));
-  turns = c.self.inside.turns + 1;
-}
-
-ends : (c : goal.After-self-in-Some-1) → Makes (view_of c.self.inside) (view_of (after_end c)) (event.Turn c.args.p)
-ends c =
-    let fits : SFits w64 c.in-Some.value = search (arith, ints) in
-    let count = end-count c.make_turn-ended.new.notes c.in-Some.value in
-    makes-event c.self.inside (after_end c) (event.Turn c.args.p) (own_lines c.make_turn-ended.new.notes ++ end_line c ∷ [])
-    (end-made c.turns_leave_one_thread.ensures.event c.turns_leave_one_thread.ensures.made c.self.inside (after_end c) c.args.p c.make_turn-ended.new.notes c.in-Some.value
-    (to_z w64 (of_z w64 c.in-Some.value)) (on-processor c.self.inside c.args.self.now c.args.p c.self.view_is c.requires.runs) c.in-Some.ensures.turn (to_z-of_z w64 c.in-Some.value fits))
-    (omega (arith, count)) (omega (arith, count, c.in-Some.ensures.few)) refl refl
-    (wrote-end c.self.inside.entries.items c.write_all.new.entries.items c.write.new.entries.items c.make_turn-ended.new.notes (end_line c)
-    (wrote-own c.self.inside.entries.items c.write_all.new.entries.items c.make_turn-ended.new.notes c.lines.result.now c.write_all.ensures.items c.lines.ensures)
-    (simp to_z-of_z at c.write.ensures.items)) refl
-
-pub invariant_of-self-in-Some : goal.invariant_of-self-in-Some
-invariant_of-self-in-Some c =
-    let open_ = is-open c.self.inside c.args.self.now c.self.view_is c.requires.open in
-    let count : vec_len c.write_all.new.entries ≡ vec_len c.self.inside.entries + length c.make_turn-ended.new.notes =
-    c.write_all.ensures.len ∙ ap (λ (ls : List What). vec_len c.self.inside.entries + length ls) c.lines.ensures in
-    kept-next c.self.inside (after_end c) (event.Turn c.args.p) c.self.invariant open_.0 open_.1 (ends c) refl refl refl
-    (more-lines c.self.inside.lines c.make_turn-ended.new.stack (vec_len c.self.inside.entries + length c.make_turn-ended.new.notes) (vec_len c.write.new.entries) (omega (arith, count, c.write.ensures.len))
-    (c.in-Some.ensures.thread (vec_len c.self.inside.entries) c.self.invariant.thread))
-    (c.in-Some.ensures.declared c.self.invariant.declared) (omega (arith, count, c.write.ensures.len, c.self.invariant.counted))
-
-pub returns-in-Some : goal.returns-in-Some
-returns-in-Some c = subst (λ (b : BookView). Makes b (view_of (after_end c)) (event.Turn c.args.p)) c.self.view_is (ends c)
+pub returns : goal.returns
+returns c =
+    let a : Inside = c.self.inside in
+    let o : IsOpen (view_of a) = is-open a c.args.self.now c.self.view_is c.requires.open in
+    let x = execution_of (view_of a) c.self.invariant.reached in
+    let h = c.self.invariant.reached.history in
+    let canonical = c.states_stay_canonical.ensures a.lines a.workers x h in
+    let follow : FollowStacks a.lines = record {
+      put_left = c.remainders_change_with_stacks.ensures.put a.lines;
+      cut_left = c.remainders_change_with_stacks.ensures.cut a.lines;
+      get_left = c.remainders_change_with_stacks.ensures.get a.lines;
+      has_left = c.remainders_change_with_stacks.ensures.has a.lines;
+    } in
+    let on : StandOn a.lines = record { put_stands = c.stacks_go_on_standing.ensures.put a.lines; cut_stands = c.stacks_go_on_standing.ensures.cut a.lines } in
+    let seat = runs-seated a.workings.services.rows c.args.p c.in-Some.t canonical.seats (sym c.in-Some.ensures) in
+    let laws : TurnLaws a c.args.p c.in-Some.t = record {
+      follow = follow;
+      on = on;
+      rises = canonical.remainders;
+      below = c.threads_have_frames_and_places.ensures.below a.lines a.workers x h c.in-Some.t.0 (c.threads_have_frames_and_places.ensures.seats a.lines a.workers x h c.in-Some.t.0 ∙ seat);
+      lines = λ made is. c.counts_rise_with_the_lines.ensures.lines a.lines a.workers (state_of a.lines a.workings a.stacks) (event.Turn c.args.p) made is;
+      again = λ made is. c.stacks_stand_after_events.ensures a.lines a.workers x h (event.Turn c.args.p) made is;
+    } in
+    let before : vec_len a.workings.entries ≡ length a.workings.entries.items = search rules in
+    let after : vec_len c.turn_in_place-left.new.workings.entries ≡ length c.turn_in_place-left.new.workings.entries.items = search rules in
+    makes-in a c.args.self.now _ (event.Turn c.args.p) c.self.view_is
+    (book-turn a c.args.p c.in-Some.t c.turn_in_place-left.new.workings c.turn_in_place-left.new.stacks c.settle.new.stacks c.settle.new.spare c.turn_in_place-left.result c.self.invariant o laws
+    (sym c.in-Some.ensures) c.turn_in_place-left.ensures c.settle.ensures.stacks c.settle.ensures.spare before after).0

@@ -1,2 +1,0 @@
-pub mod OneThreadLaws
-pub mod SharedLaws

@@ -1,3 +1,0 @@
-pub mod OneThread
-pub mod OneTurn
-pub mod Opening
