@@ -10,3 +10,4 @@ pub mod EndLaws
 pub mod HaltLaws
 pub mod RunLaws
 pub mod ReadyLaws
+pub mod Crossing
