@@ -6,8 +6,8 @@ ghost use Rattle.thr_model.specs.States.{with_writes};
 ghost use Rattle.thr_frames.specs.Replies.{listed_writes};
 ghost use Rattle.thr_shared.specs.Shared.{with_written};
 
-use thr_shared::SharedVariables;
 use thr_frames::reply::Writes;
+use thr_shared::SharedVariables;
 use thr_values::number::NameId;
 
 /// The shared variable that is there has its value from now on, if one is.

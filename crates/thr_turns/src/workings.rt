@@ -1,7 +1,7 @@
 //! What a turn works on, and what it leaves of its thread.
 
-use thr_shared::SharedVariables;
 use thr_services::{Gifts, Services};
+use thr_shared::SharedVariables;
 use thr_stack::notes::Notes;
 use thr_syntax::tree::Interface;
 use thr_values::history::Entry;
