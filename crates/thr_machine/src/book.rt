@@ -18,7 +18,7 @@ use crate::ready::{
     turns_find_what_they_ask,
 };
 use crate::stepping::{move_clock, settle, turn_in_place};
-use crate::stopping::{goes_on, is_full, stop_among};
+use crate::stopping::{is_full, stop_among, stop_at_limit};
 use crate::writing::{write, write_gifts};
 use sqlite_items::Items;
 use std::alloc::Global;
@@ -36,6 +36,7 @@ use thr_values::event::Stop;
 use thr_values::history::{Entry, What, Who};
 use thr_values::number::{NameId, NoMemory, Tid};
 use thr_variables::laws::shared_variables_stay_declared;
+use thr_waiting::laws::parts_agree_on_who_waits;
 
 /// A machine that is opened on a script, with its history. Contracts see its script, its workers, its state, the lines of
 /// its history, how many of its events were turns, the stop that was made, and whether there is memory for one event
@@ -204,9 +205,14 @@ impl Book {
         ensures value { result ≡ stop_of self.now }
         ensures reached { IsReached self.now }
     {
-        let (count, first) = self.workings.services.live();
-        let going = goes_on(&self.workings.services);
         let full = is_full(self.workings.entries.len(), self.limit);
+        if self.workings.services.some_can_run() {
+            // A thread that is ready or runs has not ended, so nobody need be counted.
+            parts_agree_on_who_waits();
+            return stop_at_limit(full);
+        }
+        let (count, first) = self.workings.services.live();
+        let going = self.workings.services.earliest().is_some();
         stop_among(count, first, going, full)
     }
 

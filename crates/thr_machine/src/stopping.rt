@@ -1,28 +1,25 @@
 //! The stop that holds.
 
-ghost use Rattle.std.specs.Prelude.{◌≡◌, ◌||◌, nat_le, is_some, List};
+ghost use Rattle.std.specs.Prelude.{◌≡◌, nat_le, List};
 ghost use Rattle.thr_values.specs.declared.number.Tid.{Tid};
-ghost use Rattle.thr_parts.specs.Dispatch.{some_can_run};
-ghost use Rattle.thr_parts.specs.Expiry.{earliest};
 ghost use Rattle.thr_threads.specs.Living.{count_and_first};
-ghost use Rattle.thr_model.specs.Histories.{stop_with};
+ghost use Rattle.thr_model.specs.Histories.{limit_stop, stop_with};
 
-use thr_services::Services;
 use thr_values::event::Stop;
 use thr_values::number::Tid;
-
-/// A thread is ready or runs, or one waits for a time.
-pub fn goes_on(services: &Services) -> bool
-    ensures { result ≡ (some_can_run services.now.rows || is_some (earliest services.now.conds)) }
-{
-    services.some_can_run() || services.earliest().is_some()
-}
 
 /// There are at least as many lines as the limit.
 pub fn is_full(lines: usize, limit: u64) -> bool
     ensures { result ≡ nat_le limit lines }
 {
     lines as u64 >= limit
+}
+
+/// The stop that holds where some thread is ready or runs.
+pub fn stop_at_limit(full: bool) -> Option<Stop>
+    ensures { result ≡ limit_stop full }
+{
+    if full { Some(Stop::Limit) } else { None }
 }
 
 /// The stop that holds where so many threads have not ended, of which this is the first, and they can go on or can't.
