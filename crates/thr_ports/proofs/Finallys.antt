@@ -16,8 +16,8 @@ use Rattle.thr_laws.specs.Routes.{Carried, Catches, RunsFinally, Undoes, Loses, 
 use Rattle.thr_laws.specs.Routed.{Routed, Making, makings, route_of, entries_of, is_prefix}
 use Rattle.thr_laws.proofs.ReadingLaws.{both, and_both}
 use Rattle.thr_model.specs.Histories.{Legal}
-use Rattle.thr_routes.proofs.ReturnSteps.{returns_leave_none}
-use Rattle.thr_routes.proofs.Histories.{legal_routed}
+use Rattle.thr_routed.proofs.ReturnSteps.{returns_leave_none}
+use Rattle.thr_routed.proofs.Histories.{legal_routed}
 use Rattle.thr_routed.proofs.Tries.{tries_clean}
 use Rattle.thr_ports.specs.Finallys.{final_in, with_final, finals_in, begun_for, is_within, numbers_of, begin_inner_first}
 

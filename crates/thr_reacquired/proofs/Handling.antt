@@ -25,8 +25,8 @@ use Rattle.thr_laws.proofs.ReadingLaws.{both, and_both}
 use Rattle.thr_model.specs.Histories.{Legal}
 use Rattle.thr_model.proofs.Legality.{of-legal}
 use Rattle.thr_owners.proofs.Owning.{one-owner}
-use Rattle.thr_routes.proofs.ReturnSteps.{returns_leave_none}
-use Rattle.thr_routes.proofs.Histories.{legal_routed}
+use Rattle.thr_routed.proofs.ReturnSteps.{returns_leave_none}
+use Rattle.thr_routed.proofs.Histories.{legal_routed}
 use Rattle.thr_routed.proofs.Tries.{tries_clean}
 use Rattle.thr_reacquired.specs.Handling.{delivery_in, ended_by, delivered_after, Delivered, delivered_with, handles, is_handled, handlers_find_the_mutex}
 use Rattle.thr_reacquired.proofs.OwnersStay.{line_keeps}

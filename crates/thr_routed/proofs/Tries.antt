@@ -19,7 +19,7 @@ use Rattle.thr_text.specs.declared.block.Block.TheVariants.{Locals, Statements, 
 use Rattle.thr_text.specs.Blocks.{form_shape, is_try, begun, blocks_below}
 use Rattle.thr_text.specs.Reading.{Formed}
 use Rattle.thr_remainder.proofs.SizeLaws.{clauses_lines}
-use Rattle.thr_routes.specs.Returns.{IsNoReturn, NoReturns, TriesHaveNoReturns}
+use Rattle.thr_routed.specs.Returns.{IsNoReturn, NoReturns, TriesHaveNoReturns}
 use Rattle.thr_routed.proofs.ScriptLines.{words_shape, Kept, script_kept}
 
 -- The blocks below these statements.

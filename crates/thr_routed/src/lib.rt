@@ -1,4 +1,4 @@
-//! Scripts that keep the rules have no return in a try, so that in their histories each unwinding takes its route.
+//! The routes of unwindings: in each legal history of a script that keeps the rules each unwinding takes its route.
 #![tactic(auto)]
 
 pub mod laws;

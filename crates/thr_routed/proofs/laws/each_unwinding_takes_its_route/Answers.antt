@@ -1,5 +1,5 @@
-use Rattle.thr_routes.proofs.ReturnSteps.{returns_leave_none}
-use Rattle.thr_routes.proofs.Histories.{legal_routed}
+use Rattle.thr_routed.proofs.ReturnSteps.{returns_leave_none}
+use Rattle.thr_routed.proofs.Histories.{legal_routed}
 use Rattle.thr_routed.proofs.Tries.{tries_clean}
 use Rattle.thr_routed.proofs.laws.each_unwinding_takes_its_route.Goals as goal
 

@@ -1,6 +1,0 @@
-use Rattle.thr_routes.proofs.Numbers.{course_made}
-use Rattle.thr_routes.specs.Courses.{HasClauses}
-use Rattle.thr_routes.proofs.laws.courses_carry_what_was_made.Goals as goal
-
-pub returns : goal.returns
-returns c = λ s o lines h. course_made s (HasClauses s) ⊥ o lines h

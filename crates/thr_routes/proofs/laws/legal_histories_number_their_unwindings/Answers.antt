@@ -1,5 +1,0 @@
-use Rattle.thr_routes.proofs.Histories.{legal_numbered}
-use Rattle.thr_routes.proofs.laws.legal_histories_number_their_unwindings.Goals as goal
-
-pub returns : goal.returns
-returns c = λ s n entries stop legal. legal_numbered s n entries stop legal

@@ -1,5 +1,0 @@
-use Rattle.thr_routes.proofs.ReturnSteps.{returns_leave_none}
-use Rattle.thr_routes.proofs.laws.returns_leave_no_scope.Goals as goal
-
-pub returns : goal.returns
-returns c = λ s tries. returns_leave_none s tries

@@ -1,4 +1,0 @@
-//! The routes of unwindings in each legal history.
-#![tactic(auto)]
-
-pub mod laws;
