@@ -1,15 +1,17 @@
 -- How runs end.
-use Rattle.std.proofs.Common.{◌≡◌, ◌<◌, ◌≤◌, ◌^◌, ℕ, List, [], ◌∷◌, refl, sym, ap, ◌∙◌, subst, arith, append-nil, inl, inr}
+use Rattle.std.proofs.Common.{◌≡◌, ◌<◌, ◌≤◌, ◌^◌, ℕ, List, [], ◌∷◌, length, refl, sym, ap, ◌∙◌, subst, arith, append-nil, inl, inr}
 use Rattle.std.proofs.lemmas.Fmt.{decimal_injective}
-use Rattle.std.specs.Prelude.{Option, Some, None, IfSome, codes, ◌⊎◌}
+use Rattle.std.specs.Prelude.{◌≢◌, Option, Some, None, IfSome, codes, ◌⊎◌}
 use Rattle.std.specs.Fmt.{decimal}
 use Rattle.std.specs.Io.KnownBytes.{Appends}
 use Rattle.thr_values.specs.declared.event.Stop.{Stop}
+use Rattle.thr_values.specs.declared.event.Stop.TheVariants as stops
 use Rattle.thr_values.specs.declared.history.Entry.{Entry}
 use Rattle.thr_syntax.specs.declared.tree.Script.{Script}
 use Rattle.thr_wire.specs.Bytes.{TookMoreThan, TookAll}
 use Rattle.thr_text.specs.Reading.{Formed}
 use Rattle.thr_model.specs.Histories.{Legal}
+use Rattle.thr_alone.specs.Only.{IsOnlyHistory}
 use Rattle.thr_laws.specs.CallsOnce.{CallsOnce}
 use Rattle.thr_laws.specs.CancelLaw.{CancelLaw}
 use Rattle.thr_laws.specs.Owners.{OneOwner}
@@ -67,6 +69,12 @@ laws-of routes owners cancels calls s told n es stop formed same legal =
     let l : Legal s n es stop = subst (λ (x : Script). Legal x n es stop) same legal in
     record { routes = routes s n es stop formed l; owners = owners s n es stop l; cancels = cancels s n es stop l; calls = calls s n es stop l }
 
+-- With one worker the history is the only one, where the law says so.
+pub only-of : ((s : Script) (es : List Entry) (stop : Stop) → Legal s 1 es stop → stop ≢ stops.Memory → IsOnlyHistory s es stop) → (s told : Script) (n workers : ℕ) (es : List Entry) (stop : Stop) → told ≡ s → n ≡ workers
+    → Legal told n es stop → stop ≢ stops.Memory → workers ≡ 1 → IsOnlyHistory s es stop
+only-of law s told n workers es stop same count legal cause one =
+    law s es stop (subst (λ (x : Script). Legal x 1 es stop) same (subst (λ (k : ℕ). Legal told k es stop) (count ∙ one) legal)) cause
+
 -- a run's status, where the sink's fault is ruled out
 pub runs-well : (status : ℕ) → IsRunStatus status ⊎ (status ≡ 4) → (status ≡ 4 → ⊥) → IsRunStatus status
 runs-well status (inl e) never = e
@@ -99,16 +107,3 @@ one-number words n m h g = decimal_injective n m (fits n h.few) (fits m g.few) (
 -- What holds for the number that was read holds for each that the words ask for.
 pub for-its-number : (words : List (List ℕ)) (n : ℕ) (P : ℕ → Type 0) → IsRun words n → P n → (m : ℕ) → IsRun words m → P m
 for-its-number words n P h p m g = subst P (one-number words n m h g) p
-
--- words of two, the second of which is no number from 1 to 16 or the first of which isn't `run`
-pub no-number : (a b : List ℕ) → ((n : ℕ) → 1 ≤ n → n ≤ 16 → b ≡ decimal n → ⊥) → ((n : ℕ) × IsRun (a ∷ b ∷ []) n) → ⊥
-unfolding second
-no-number a b none asked = none asked.0 asked.1.some asked.1.few (ap second asked.1.so)
-
-first : List (List ℕ) → List ℕ
-first [] = []
-first (a ∷ as) = a
-
-pub other-word : (a b : List ℕ) → (a ≡ codes "run" → ⊥) → ((n : ℕ) × IsRun (a ∷ b ∷ []) n) → ⊥
-unfolding first
-other-word a b no asked = no (ap first asked.1.so)

@@ -105,8 +105,8 @@ none-is-not (Some x) e h = absurd (cc)
 
 pub is-idle : (old mid : BookView) (p : ℕ) (thread taken : Option Tid) → None ≡ stop_of old → IsReached old → RoomOnly old mid → thread ≡ running mid.state.rows p → (is_some thread ≡ true → ⊥)
     → (p < mid.workers → running mid.state.rows p ≡ None → IsSome (best mid.state.rows row.Ready) → IsSome taken) → taken ≡ None → p < old.workers → IsIdle old p
-is-idle old mid p thread taken open_ reached same runs no takes none there =
-    let nothing : running mid.state.rows p ≡ None = sym runs ∙ not-some thread no in
+is-idle old mid p thread taken open_ reached same runs free takes none there =
+    let nothing : running mid.state.rows p ≡ None = sym runs ∙ not-some thread free in
     let few : p < mid.workers = subst (λ (n : ℕ). p < n) (sym (ap (λ (b : BookView). b.workers) same)) there in record {
       no_thread = ap (λ (b : BookView). running b.state.rows p) (sym same) ∙ nothing;
       nobody = ap (λ (b : BookView). best b.state.rows row.Ready) (sym same) ∙ not-some (best mid.state.rows row.Ready) (λ h. none-is-not taken none (takes few nothing h));
@@ -126,8 +126,12 @@ gone p e es h = gone-head p e es (p e) refl h
 same-p : (p : ℕ) (slice : ℕ) → runs_on p (Runs p slice) ≡ true
 same-p p slice = grind (arith, nat_tests)
 
+not-both : (b : Bool) → b ≡ false → b ≡ true → ⊥
+not-both true e f = absurd (cc)
+not-both false e f = absurd (cc)
+
 cannot : (l : Place) → ((p : ℕ) → runs_on p l ≡ false) → place_in row.Ready l ≡ false → can_run l ≡ false
-cannot (Runs p slice) none ready = absurd (cc (none p) (same-p p slice))
+cannot (Runs p slice) none ready = absurd (not-both (runs_on p (Runs p slice)) (none p) (same-p p slice))
 cannot (Stands row.Ready arrival) none ready = absurd (cc)
 cannot (Stands _ arrival) none ready = refl
 
@@ -172,7 +176,7 @@ at-some-time false b e h = h
 
 waits-for-time : (s : Script) (st : State) (count : ℕ) → stop_at s st count ≡ None → some_can_run st.rows ≡ false → is_some (earliest st.conds) ≡ true
 unfolding stop_at
-waits-for-time s st count open_ no = at-some-time (some_can_run st.rows) (is_some (earliest st.conds)) no (still-going _ _ _ open_)
+waits-for-time s st count open_ none = at-some-time (some_can_run st.rows) (is_some (earliest st.conds)) none (still-going _ _ _ open_)
 
 clock-some : {T U : Type 0} (f : T → U) (o : Option T) → is_some o ≡ true → option_map f o ≡ None → ⊥
 clock-some f None h e = absurd (cc)
@@ -180,7 +184,7 @@ clock-some f (Some x) h e = absurd (cc)
 
 clock-legal : (s : Script) (n : ℕ) (st : State) → some_can_run st.rows ≡ false → is_some (earliest st.conds) ≡ true → made_by s n st event.Clock ≡ None → ⊥
 unfolding made_by
-clock-legal s n st no time e = clock-some (clock_to st) (earliest st.conds) time (sym (ap (λ (b : Bool). clock_of b st) no) ∙ e)
+clock-legal s n st none time e = clock-some (clock_to st) (earliest st.conds) time (sym (ap (λ (b : Bool). clock_of b st) none) ∙ e)
 
 all-idle : (o : Option Tid) → ((t : Tid) → o ≡ Some t → o ≡ None) → o ≡ None
 all-idle None h = refl
@@ -192,12 +196,22 @@ pub clock-can : (b : BookView) → ((s : Script) (n : ℕ) (x : Execution) → H
 clock-can b law some idle e =
     let one : IsIdle b 0 = idle 0 (first-of b.workers some) in
     let x : Execution = record { state = b.state; events = one.reached.events; entries = b.entries; turns = b.turns } in
-    let no : some_can_run b.state.rows ≡ false =
+    let none : some_can_run b.state.rows ≡ false =
     idle-all b.state.rows (λ p. all-idle (running b.state.rows p) (λ t is. (idle p (law b.script b.workers x one.reached.history p t is)).no_thread)) one.nobody in
-    clock-legal b.script b.workers b.state no (waits-for-time b.script b.state (length b.entries) one.no_stop no) e
+    clock-legal b.script b.workers b.state none (waits-for-time b.script b.state (length b.entries) one.no_stop none) e
   where
     first-of : (n : ℕ) → 1 ≤ n → 0 < n
     first-of n h = omega arith
+
+-- Nor is a clock refused whose book has room since then.
+pub clock-moves : (old mid : BookView) → ((s : Script) (n : ℕ) (x : Execution) → History s n x → (p : ℕ) (t : Tid) → running x.state.rows p ≡ Some t → p < n) → 1 ≤ old.workers → ((q : ℕ) → q < old.workers → IsIdle old q)
+    → RoomOnly old mid → made_by mid.script mid.workers mid.state event.Clock ≡ None → ⊥
+clock-moves old mid law some idle same e = clock-can old law some idle (subst (λ (b : BookView). made_by b.script b.workers b.state event.Clock ≡ None) same e)
+
+-- The clock brings an idle book nearer to the limit.
+pub clock-further : (old mid new : BookView) → old.stopped ≡ None → 1 ≤ old.workers → ((q : ℕ) → q < old.workers → IsIdle old q) → RoomOnly old mid → Makes mid new event.Clock → GoesOn old new
+clock-further old mid new going some idle same m =
+    let first : IsIdle old 0 = idle 0 (omega (arith, some)) in goes-further old mid new event.Clock going (sym first.no_stop) same m
 
 -- ---- rounds
 

@@ -15,6 +15,7 @@ use Rattle.thr_laws.specs.CancelLaw.{CancelLaw}
 use Rattle.thr_laws.specs.Owners.{OneOwner}
 use Rattle.thr_laws.specs.Routed.{Routed}
 use Rattle.thr_model.specs.Histories.{Legal}
+use Rattle.thr_alone.specs.Only.{IsOnlyHistory}
 
 -- ---- the words of the commands that are built
 
@@ -85,9 +86,10 @@ pub data Refuses (input : List ℕ) (status : ℕ) (written : List ℕ) : Type 0
 
 -- This status and this text answer `run` with so many workers on this input.
 pub data RunAnswers (workers : ℕ) (input : List ℕ) (status : ℕ) (written : List ℕ) : Type 0 where
-  -- The journal of a legal history of the script, which meets the laws, with the status of its stop.
+  -- The journal of a legal history of the script, which meets the laws, with the status of its stop. With one worker the script
+  -- has no other legal history, but for those that want of memory cuts short.
   ran : (s : Script) (entries : List Entry) (stop : Stop) → length input ≤ max_script → Reads input s → Legal s workers entries stop
-      → MeetsLaws s entries stop → stop ≢ stops.Memory → status ≡ status_of stop → written ≡ text s workers entries stop → RunAnswers workers input status written
+      → MeetsLaws s entries stop → (workers ≡ 1 → IsOnlyHistory s entries stop) → stop ≢ stops.Memory → status ≡ status_of stop → written ≡ text s workers entries stop → RunAnswers workers input status written
   not_run : Refuses input status written → RunAnswers workers input status written
 
 -- This status and this text answer `check` on this input.

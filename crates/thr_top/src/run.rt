@@ -4,10 +4,12 @@ ghost use Rattle.std.specs.Prelude.{◌≡◌, ◌≢◌, ◌<◌, ◌≤◌, If
 ghost use Rattle.thr_values.specs.declared.event.Stop.TheVariants as stops;
 ghost use Rattle.thr_text.specs.Reading.{Formed};
 ghost use Rattle.thr_model.specs.Histories.{Legal};
+ghost use Rattle.thr_alone.specs.Only.{IsOnlyHistory};
 ghost use Rattle.thr_top.specs.Answers.{MeetsLaws};
 ghost use Rattle.thr_top.specs.Driving.{GoesOn, IsOver, AreIdle, StepsSo, RoundsSo, room_of};
 
 use std::alloc::Global;
+use thr_alone::laws::one_processor_has_one_history;
 use thr_answers::laws::each_call_is_answered_once;
 use thr_counts::laws::histories_run_on_processors_that_are_there;
 use thr_machine::book::Book;
@@ -112,13 +114,14 @@ fn drive(book: &mut Book, workers: u32) -> Result<(), NoMemory>
 }
 
 /// The journal of a legal history of a script, by so many workers: all threads have ended, nothing can go on, or the lines come
-/// to the limit.
+/// to the limit. One worker leaves no choice.
 pub fn history_of(alloc: Global, script: Script, workers: u32) -> Result<Journal, NoMemory>
     requires formed { Formed script }
     requires some { 1 ≤ workers }
     requires few { workers ≤ 16 }
     ensures legal { IfOk result (λ j. Legal script workers j.entries j.stop) }
     ensures laws { IfOk result (λ j. MeetsLaws script j.entries j.stop) }
+    ensures only { IfOk result (λ j. workers ≡ 1 → IsOnlyHistory script j.entries j.stop) }
     ensures stop { IfOk result (λ j. j.stop ≢ stops.Memory) }
     ensures same { IfOk result (λ j. (j.script ≡ script) × (j.workers ≡ workers)) }
 {
@@ -129,5 +132,6 @@ pub fn history_of(alloc: Global, script: Script, workers: u32) -> Result<Journal
     no_mutex_has_two_owners();
     cancels_are_delivered_when_they_must_and_may_be();
     each_call_is_answered_once();
+    one_processor_has_one_history();
     Ok(book.into_journal())
 }

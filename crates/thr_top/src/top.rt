@@ -116,7 +116,8 @@ pub fn top<S: Source, K: Sink>(
     ensures at_most { IsCommand words.now → TookAtMost (max_script + 1) (S.left source.old) (S.left source.new) }
     ensures taken { IsCommand words.now → result.0 ≢ 3 → result.0 ≢ 5 → IfSome (S.left source.old) (λ input. (S.left source.new ≡ Some []) ⊎ TookMoreThan max_script input (S.left source.new)) }
 
-    // `run` writes the journal of a legal history of the script by so many workers, or what stands in its place.
+    // `run` writes the journal of a legal history of the script by so many workers, or what stands in its place. With one worker
+    // that is the only legal history of the script, but for those that want of memory cuts short.
     ensures run { (n : ℕ) → IsRun words.now n → IfSome (S.left source.old) (λ input. Ends (RunAnswers n input) (K.held sink.old) (K.held sink.new) result.0) }
 
     // `check` writes the canonical text of the script, or what stands in its place.

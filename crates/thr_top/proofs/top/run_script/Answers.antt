@@ -13,6 +13,6 @@ returns-in_default-print-clause-ends g c = λ input short reads. ends-no-memory 
 
 pub returns-clause-ends : goal.returns-clause-ends
 returns-clause-ends g c = λ input short reads.
-    answered _ _ (ran c.args.script c.in-Ok.journal.entries c.in-Ok.journal.stop short reads c.in-Ok.ensures.legal c.in-Ok.ensures.laws c.in-Ok.ensures.stop c.status_of.ensures.status
+    answered _ _ (ran c.args.script c.in-Ok.journal.entries c.in-Ok.journal.stop short reads c.in-Ok.ensures.legal c.in-Ok.ensures.laws c.in-Ok.ensures.only c.in-Ok.ensures.stop c.status_of.ensures.status
     (c.as_slice.ensures.value ∙ c.in-Ok-print.ensures ∙ ap (λ (s : Script). text s c.in-Ok.journal.workers c.in-Ok.journal.entries c.in-Ok.journal.stop) c.in-Ok.ensures.same.0
     ∙ ap (λ (w : ℕ). text c.args.script w c.in-Ok.journal.entries c.in-Ok.journal.stop) c.in-Ok.ensures.same.1)) c.give.ensures.written
