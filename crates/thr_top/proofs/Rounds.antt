@@ -1,7 +1,7 @@
 -- Rounds of the processors.
-use Rattle.std.proofs.Common.{◌≡◌, ◌≢◌, ◌<◌, ◌≤◌, ℕ, Bool, true, false, cond, ltb, List, [], ◌∷◌, ◌++◌, length, length-append, refl, sym, ap, ◌∙◌, subst, arith, Option, Some, None, inl, inr, ◌+◌}
+use Rattle.std.proofs.Common.{◌≡◌, ◌≢◌, ◌<◌, ◌≤◌, ℕ, Bool, true, false, cond, List, [], ◌∷◌, ◌++◌, length, length-append, refl, sym, ap, ◌∙◌, subst, arith, Option, Some, None, ◌+◌}
 use Rattle.std.proofs.lemmas.Bool.Decides.{nat_tests}
-use Rattle.std.specs.Prelude.{IsSome, is_some, nat_le, ◌||◌, ◌⊎◌}
+use Rattle.std.specs.Prelude.{is_some, nat_le, ◌||◌}
 use Rattle.std.specs.List.{filter, list_any}
 use Rattle.std.specs.Option.{option_map}
 use Rattle.thr_values.specs.declared.number.Tid.{Tid}
@@ -9,25 +9,23 @@ use Rattle.thr_values.specs.declared.event.Event.{Event}
 use Rattle.thr_values.specs.declared.event.Event.TheVariants as event
 use Rattle.thr_values.specs.declared.event.Stop.{Stop}
 use Rattle.thr_values.specs.declared.event.Stop.TheVariants as stops
-use Rattle.thr_values.specs.declared.history.Entry.{Entry}
 use Rattle.thr_syntax.specs.declared.tree.Script.{Script}
-use Rattle.thr_parts.specs.declared.row.RowId.{RowId}
 use Rattle.thr_parts.specs.declared.row.RowId.TheVariants as row
 use Rattle.thr_parts.specs.declared.row.Place.{Place}
 use Rattle.thr_parts.specs.declared.row.Place.TheVariants.{Runs, Stands}
 use Rattle.thr_parts.specs.declared.row.Seat.{Seat}
-use Rattle.thr_parts.specs.Rows.{Rows, Seated, is_same_row, place_in, best, best_of, standing, number_in}
+use Rattle.thr_parts.specs.Rows.{Rows, Seated, place_in, best, best_of, standing, number_in}
 use Rattle.thr_parts.specs.Dispatch.{runs_on, first, running, can_run, some_can_run}
 use Rattle.thr_parts.specs.Expiry.{earliest}
 use Rattle.thr_model.specs.States.{State}
 use Rattle.thr_model.specs.Turns.{Made}
 use Rattle.thr_model.specs.Events.{made_by, clock_of, clock_to}
-use Rattle.thr_model.specs.Histories.{Execution, History, limit_of, stop_with, stop_at, goes_on}
+use Rattle.thr_model.specs.Histories.{Execution, History, limit_of, stop_with, stop_at}
 use Rattle.thr_machine.specs.Views.{BookView}
-use Rattle.thr_machine.specs.Books.{Makes, RoomOnly, IsReached, stop_of}
+use Rattle.thr_machine.specs.Books.{Makes, RoomOnly, stop_of}
 use Rattle.thr_top.specs.declared.run.Outcome.{Outcome}
 use Rattle.thr_top.specs.declared.run.Outcome.TheVariants as step
-use Rattle.thr_top.specs.Driving.{IsSame, GoesOn, IsAtEnd, IsOver, IsIdle, AreIdle, RoundsSo, room_of}
+use Rattle.thr_top.specs.Driving.{GoesOn, IsAtEnd, IsOver, IsIdle, AreIdle}
 
 -- ---- a book that stops
 
@@ -75,43 +73,6 @@ goes-further old mid new e going open_ same m =
       same = record { script = script; workers = ap (λ (b : BookView). b.workers) m.after ∙ ap (λ (b : BookView). b.workers) same };
       going = ap (λ (b : BookView). b.stopped) m.after ∙ ap (λ (b : BookView). b.stopped) same ∙ going;
       nearer = omega (arith, less, ap limit_of script, ap length lines, length-append old.entries m.made.lines, m.some);
-    }
-
--- what was further than a book from which nothing but the room had changed
-pub further-from : (old mid new : BookView) → RoomOnly old mid → GoesOn mid new → GoesOn old new
-further-from old mid new same g = record {
-  same = record { script = g.same.script ∙ ap (λ (b : BookView). b.script) same; workers = g.same.workers ∙ ap (λ (b : BookView). b.workers) same };
-  going = g.going;
-  nearer = subst (λ (n : ℕ). room_of new < n) (ap room_of same) g.nearer;
-}
-
--- and once more
-pub further-still : (old mid new : BookView) → GoesOn old mid → GoesOn mid new → GoesOn old new
-further-still old mid new f g = record {
-  same = record { script = g.same.script ∙ f.same.script; workers = g.same.workers ∙ f.same.workers };
-  going = g.going;
-  nearer = omega (arith, f.nearer, g.nearer);
-}
-
--- ---- idle processors
-
-not-some : {A : Type 0} (o : Option A) → (IsSome o → ⊥) → o ≡ None
-not-some None h = refl
-not-some (Some x) h = absurd (h refl)
-
-none-is-not : {A : Type 0} (o : Option A) → o ≡ None → IsSome o → ⊥
-none-is-not None e h = absurd (cc)
-none-is-not (Some x) e h = absurd (cc)
-
-pub is-idle : (old mid : BookView) (p : ℕ) (thread taken : Option Tid) → None ≡ stop_of old → IsReached old → RoomOnly old mid → thread ≡ running mid.state.rows p → (is_some thread ≡ true → ⊥)
-    → (p < mid.workers → running mid.state.rows p ≡ None → IsSome (best mid.state.rows row.Ready) → IsSome taken) → taken ≡ None → p < old.workers → IsIdle old p
-is-idle old mid p thread taken open_ reached same runs free takes none there =
-    let nothing : running mid.state.rows p ≡ None = sym runs ∙ not-some thread free in
-    let few : p < mid.workers = subst (λ (n : ℕ). p < n) (sym (ap (λ (b : BookView). b.workers) same)) there in record {
-      no_thread = ap (λ (b : BookView). running b.state.rows p) (sym same) ∙ nothing;
-      nobody = ap (λ (b : BookView). best b.state.rows row.Ready) (sym same) ∙ not-some (best mid.state.rows row.Ready) (λ h. none-is-not taken none (takes few nothing h));
-      no_stop = sym open_;
-      reached = reached;
     }
 
 -- ---- nobody can run
@@ -215,88 +176,8 @@ clock-further old mid new going some idle same m =
 
 -- ---- rounds
 
-pub room-only : (b : BookView) → RoomOnly b b
-room-only b = refl
-
-pub room-again : (a b c : BookView) → RoomOnly a b → RoomOnly b c → RoomOnly a c
-room-again a b c e f = f ∙ ap (λ (x : BookView). let v : BookView = record x { room = c.room } in v) e
-
-idle-from : (old mid : BookView) (p : ℕ) → RoomOnly old mid → IsIdle mid p → IsIdle old p
-idle-from old mid p same is =
-    let at : IsIdle (record old { room = mid.room }) p = subst (λ (b : BookView). IsIdle b p) same is in record {
-      no_thread = at.no_thread;
-      nobody = at.nobody;
-      no_stop = at.no_stop;
-      reached = record { events = at.reached.events; history = at.reached.history };
-    }
-
-below-or-at : (b : Bool) (q p : ℕ) → ltb q p ≡ b → q < p + 1 → (q < p) ⊎ (q ≡ p)
-below-or-at true q p e h = inl (grind (arith, nat_tests))
-below-or-at false q p e h = inr (grind (arith, nat_tests))
-
-by-place : (b : BookView) (p q : ℕ) → ((q : ℕ) → q < p → IsIdle b q) → IsIdle b p → (q < p) ⊎ (q ≡ p) → IsIdle b q
-by-place b p q below at (inl less) = below q less
-by-place b p q below at (inr same) = subst (IsIdle b) (sym same) at
-
--- one processor more is idle
-pub one-more-idle : (old mid new : BookView) (p : ℕ) → AreIdle old mid p → RoomOnly mid new → IsIdle mid p → AreIdle old new (p + 1)
-one-more-idle old mid new p h same is = record {
-  same = room-again old mid new h.same same;
-  idle = λ q less. by-place old p q h.idle (idle-from old mid p h.same is) (below-or-at (ltb q p) q p refl less);
-}
-
-pub none-idle : (b : BookView) → AreIdle b b 0
-none-idle b = record { same = refl; idle = λ q less. absurd (no-less q less) }
-  where
-    no-less : (q : ℕ) → q < 0 → ⊥
-    no-less q less = omega arith
-
 -- What was made so far in a round, before processor p is asked.
 abbrev pub SoFar : ℕ → (old new : BookView) → Outcome → Type 0
 SoFar p old new step.Made = GoesOn old new
 SoFar p old new step.Idle = AreIdle old new p
 SoFar p old new step.Over = ⊥
-
-same-on : (a b c : BookView) → IsSame a b → IsSame b c → IsSame a c
-same-on a b c e f = record { script = f.script ∙ e.script; workers = f.workers ∙ e.workers }
-
-same-room : (a b : BookView) → RoomOnly a b → IsSame a b
-same-room a b e = record { script = ap (λ (v : BookView). v.script) e; workers = ap (λ (v : BookView). v.workers) e }
-
-further-room : (old mid new : BookView) → GoesOn old mid → RoomOnly mid new → GoesOn old new
-further-room old mid new g same = record {
-  same = same-on old mid new g.same (same-room mid new same);
-  going = ap (λ (b : BookView). b.stopped) same ∙ g.going;
-  nearer = subst (λ (n : ℕ). n < room_of old) (sym (ap room_of same)) g.nearer;
-}
-
-pub so-far-made : (p : ℕ) (old mid new : BookView) (x : Outcome) → SoFar p old mid x → GoesOn mid new → GoesOn old new
-so-far-made p old mid new step.Made so g = further-still old mid new so g
-so-far-made p old mid new step.Idle so g = further-from old mid new so.same g
-so-far-made p old mid new step.Over so g = absurd so
-
-pub so-far-idle : (p : ℕ) (old mid new : BookView) (x : Outcome) → SoFar p old mid x → RoomOnly mid new → IsIdle mid p → SoFar (p + 1) old new x
-so-far-idle p old mid new step.Made so same is = further-room old mid new so same
-so-far-idle p old mid new step.Idle so same is = one-more-idle old mid new p so same is
-so-far-idle p old mid new step.Over so same is = so
-
-pub so-far-over : (p : ℕ) (old mid new : BookView) (x : Outcome) → SoFar p old mid x → IsOver mid new → IsOver old new
-so-far-over p old mid new step.Made so over = record { same = same-on old mid new so.same over.same; end = over.end }
-so-far-over p old mid new step.Idle so over = record { same = same-on old mid new (same-room old mid so.same) over.same; end = over.end }
-so-far-over p old mid new step.Over so over = absurd so
-
-pub so-far-same : (p : ℕ) (old mid : BookView) (x : Outcome) → SoFar p old mid x → IsSame old mid
-so-far-same p old mid step.Made so = so.same
-so-far-same p old mid step.Idle so = same-room old mid so.same
-so-far-same p old mid step.Over so = absurd so
-
-pub so-far-going : (p : ℕ) (old mid : BookView) (x : Outcome) → old.stopped ≡ None → SoFar p old mid x → mid.stopped ≡ None
-so-far-going p old mid step.Made e so = so.going
-so-far-going p old mid step.Idle e so = ap (λ (b : BookView). b.stopped) so.same ∙ e
-so-far-going p old mid step.Over e so = absurd so
-
--- what a round comes to once each processor was asked
-pub round-so : (p : ℕ) (old new : BookView) (x : Outcome) → SoFar p old new x → p ≡ old.workers → RoundsSo old new x
-round-so p old new step.Made so e = so
-round-so p old new step.Idle so e = subst (AreIdle old new) e so
-round-so p old new step.Over so e = absurd so

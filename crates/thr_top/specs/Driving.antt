@@ -1,5 +1,5 @@
 -- How a book is driven to its end: the caller goes round the processors, and the clock moves after a round without an event.
-use Rattle.std.specs.Prelude.{◌≡◌, ◌≢◌, ℕ, ◌-◌, ◌<◌, ◌≤◌, length, Option, None, Some}
+use Rattle.std.specs.Prelude.{◌≡◌, ◌≢◌, ℕ, ◌-◌, ◌<◌, length, None, Some}
 use Rattle.thr_values.specs.declared.event.Stop.{Stop}
 use Rattle.thr_values.specs.declared.event.Stop.TheVariants as stops
 use Rattle.thr_parts.specs.declared.row.RowId.TheVariants as row
