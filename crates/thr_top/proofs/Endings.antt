@@ -12,11 +12,8 @@ use Rattle.thr_wire.specs.Bytes.{TookMoreThan, TookAll}
 use Rattle.thr_text.specs.Reading.{Formed}
 use Rattle.thr_model.specs.Histories.{Legal}
 use Rattle.thr_alone.specs.Only.{IsOnlyHistory}
-use Rattle.thr_laws.specs.CallsOnce.{CallsOnce}
-use Rattle.thr_laws.specs.CancelLaw.{CancelLaw}
-use Rattle.thr_laws.specs.Owners.{OneOwner}
-use Rattle.thr_laws.specs.Routed.{Routed}
-use Rattle.thr_top.specs.Answers.{IsRun, IsRunStatus, MeetsLaws, Refuses, RunAnswers, CheckAnswers, Ends, answered, unread, no_memory, not_run, not_checked, whole, max_script}
+use Rattle.thr_lawful.specs.Laws.{MeetsLaws}
+use Rattle.thr_top.specs.Answers.{IsRun, IsRunStatus, Refuses, RunAnswers, CheckAnswers, Ends, answered, unread, no_memory, not_run, not_checked, whole, max_script}
 
 gains-nothing : (o : Option (List ℕ)) → Appends o o []
 gains-nothing None = tt
@@ -61,13 +58,10 @@ told-long (Some before) (Some now) P t p = p before (omega arith)
 
 -- ---- what a run meets
 
--- A legal history of a script that keeps the rules meets the laws, where each law says so.
-pub laws-of : ((s : Script) (n : ℕ) (es : List Entry) (stop : Stop) → Formed s → Legal s n es stop → Routed s es) → ((s : Script) (n : ℕ) (es : List Entry) (stop : Stop) → Legal s n es stop → OneOwner es)
-    → ((s : Script) (n : ℕ) (es : List Entry) (stop : Stop) → Legal s n es stop → CancelLaw s es) → ((s : Script) (n : ℕ) (es : List Entry) (stop : Stop) → Legal s n es stop → CallsOnce s es stop)
-    → (s told : Script) (n : ℕ) (es : List Entry) (stop : Stop) → Formed s → told ≡ s → Legal told n es stop → MeetsLaws s es stop
-laws-of routes owners cancels calls s told n es stop formed same legal =
-    let l : Legal s n es stop = subst (λ (x : Script). Legal x n es stop) same legal in
-    record { routes = routes s n es stop formed l; owners = owners s n es stop l; cancels = cancels s n es stop l; calls = calls s n es stop l }
+-- What holds of each legal history of a script holds of this one.
+pub laws-of : ((s : Script) (n : ℕ) (es : List Entry) (stop : Stop) → Formed s → Legal s n es stop → MeetsLaws s es stop) → (s told : Script) (n : ℕ) (es : List Entry) (stop : Stop)
+    → Formed s → told ≡ s → Legal told n es stop → MeetsLaws s es stop
+laws-of laws s told n es stop formed same legal = laws s n es stop formed (subst (λ (x : Script). Legal x n es stop) same legal)
 
 -- With one worker the history is the only one, where the law says so.
 pub only-of : ((s : Script) (es : List Entry) (stop : Stop) → Legal s 1 es stop → stop ≢ stops.Memory → IsOnlyHistory s es stop) → (s told : Script) (n workers : ℕ) (es : List Entry) (stop : Stop) → told ≡ s → n ≡ workers

@@ -10,12 +10,9 @@ use Rattle.thr_syntax.specs.Canon.{canon}
 use Rattle.thr_text.specs.Faults.{first_of}
 use Rattle.thr_text.specs.Journals.{text}
 use Rattle.thr_text.specs.Reading.{Reads, faults}
-use Rattle.thr_laws.specs.CallsOnce.{CallsOnce}
-use Rattle.thr_laws.specs.CancelLaw.{CancelLaw}
-use Rattle.thr_laws.specs.Owners.{OneOwner}
-use Rattle.thr_laws.specs.Routed.{Routed}
 use Rattle.thr_model.specs.Histories.{Legal}
 use Rattle.thr_alone.specs.Only.{IsOnlyHistory}
+use Rattle.thr_lawful.specs.Laws.{MeetsLaws}
 
 -- ---- the words of the commands that are built
 
@@ -65,15 +62,6 @@ abbrev pub refusal : ℕ → ℕ → List ℕ
 refusal number line = one_line (codes "refused F" ++ (decimal number ++ (codes " line " ++ decimal line)))
 
 -- ---- answers
-
--- The lines of a history with this stop meet the laws of docs/laws.md: each unwinding takes its route through the open handlers until
--- it is caught or replaced, no mutex has two owners, cancels are delivered when they must and may be, and each call that waits is
--- answered once.
-pub record MeetsLaws (s : Script) (entries : List Entry) (stop : Stop) : Type 0 where
-  pub routes : Routed s entries
-  pub owners : OneOwner entries
-  pub cancels : CancelLaw s entries
-  pub calls : CallsOnce s entries stop
 
 -- This status and this text answer a command that reads a script, where the input is none.
 pub data Refuses (input : List ℕ) (status : ℕ) (written : List ℕ) : Type 0 where

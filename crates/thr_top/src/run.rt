@@ -5,17 +5,14 @@ ghost use Rattle.thr_values.specs.declared.event.Stop.TheVariants as stops;
 ghost use Rattle.thr_text.specs.Reading.{Formed};
 ghost use Rattle.thr_model.specs.Histories.{Legal};
 ghost use Rattle.thr_alone.specs.Only.{IsOnlyHistory};
-ghost use Rattle.thr_top.specs.Answers.{MeetsLaws};
+ghost use Rattle.thr_lawful.specs.Laws.{MeetsLaws};
 ghost use Rattle.thr_top.specs.Driving.{GoesOn, IsOver, AreIdle, StepsSo, RoundsSo, room_of};
 
 use std::alloc::Global;
 use thr_alone::laws::one_processor_has_one_history;
-use thr_answers::laws::each_call_is_answered_once;
 use thr_counts::laws::histories_run_on_processors_that_are_there;
+use thr_lawful::laws::legal_histories_meet_the_laws;
 use thr_machine::book::Book;
-use thr_owners::laws::no_mutex_has_two_owners;
-use thr_reacquired::laws::cancels_are_delivered_when_they_must_and_may_be;
-use thr_routed::laws::each_unwinding_takes_its_route;
 use thr_syntax::journal::Journal;
 use thr_syntax::tree::Script;
 use thr_values::number::NoMemory;
@@ -127,11 +124,7 @@ pub fn history_of(alloc: Global, script: Script, workers: u32) -> Result<Journal
 {
     let mut book = Book::new(alloc, script, workers)?;
     drive(&mut book, workers)?;
-    // The laws that what was made meets.
-    each_unwinding_takes_its_route();
-    no_mutex_has_two_owners();
-    cancels_are_delivered_when_they_must_and_may_be();
-    each_call_is_answered_once();
+    legal_histories_meet_the_laws();
     one_processor_has_one_history();
     Ok(book.into_journal())
 }

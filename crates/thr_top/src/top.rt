@@ -71,12 +71,7 @@ fn run_input<K: Sink>(alloc: Global, input: &[u8], workers: u32, sink: &mut K) -
 }
 
 /// Does what `run` says with so many workers.
-fn run_on<S: Source, K: Sink>(
-    alloc: Global,
-    workers: u32,
-    source: &mut S,
-    sink: &mut K,
-) -> Status
+fn run_on<S: Source, K: Sink>(alloc: Global, workers: u32, source: &mut S, sink: &mut K) -> Status
     requires some { 1 ≤ workers }
     requires few { workers ≤ 16 }
     ensures at_most { TookAtMost (max_script + 1) (S.left source.old) (S.left source.new) }

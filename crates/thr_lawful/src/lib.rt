@@ -1,0 +1,4 @@
+//! The laws that every legal history meets, as one.
+#![tactic(auto)]
+
+pub mod laws;
