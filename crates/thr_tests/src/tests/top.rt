@@ -35,8 +35,26 @@ const ALL_SORTS: &[u8] =
 const ALL_SORTS_PLAIN: &[u8] =
     b"dcethr 1\ninterface status\nlimit 10\nshared x 0\nexception e_1\nstatus s 5\nmutex m\nmutexattr b\ncond c\nattr t\nkey k\nonce o\npipe p 1\nroutine w a\nlocal v\nset v + a * -2 not x\nif exc_matches e_1 s\nelse\nend\ntry\nraise e_1\ncatch s\nset v exc_get_status this\nreraise\ncatch_all\nendtry\ntry\nwhile < v 3\ncall w err v\nend\nfinally\npthread_mutex_init m default\npthread_mutex_init m b\nendtry\nreturn self\nend\nroutine main a\ncall w 1\npthread_create x t w a\npthread_keycreate k none\npthread_setcancel CANCEL_OFF x\npthread_setscheduler a SCHED_RR 12 x\npthread_exit 0\nend\n";
 
+/// A thread that is joined twice, with what it returns.
+const JOINED: &[u8] =
+    b"dcethr 1\nroutine w a\nreturn + a 1\nend\nroutine main a\nlocal t\nlocal v\npthread_create t default w 4\npthread_join t v\npthread_join t v\nsay v\nend\n";
+
+const JOINED_JOURNAL: &[u8] =
+    b"dcethr journal 1\nworkers 1\nscript 12\ndcethr 1\nroutine w a\nreturn + a 1\nend\nroutine main a\nlocal t\nlocal v\npthread_create t default w 4\npthread_join t v\npthread_join t v\nsay v\nend\nhistory\n1 p0 run t1\n2 t1 pthread_create default w 4 = 2\n3 t1 pthread_join 2 = blocks\n4 p0 run t2\n5 t2 end 5\n6 p0 run t1\n7 t1 ret = 5\n8 t1 pthread_join 2 = 5\n9 t1 say 5\n10 t1 end 0\nstop finished\n";
+
+/// With two workers the new thread runs while the first one comes to its join.
+const JOINED_BY_TWO: &[u8] =
+    b"dcethr journal 1\nworkers 2\nscript 12\ndcethr 1\nroutine w a\nreturn + a 1\nend\nroutine main a\nlocal t\nlocal v\npthread_create t default w 4\npthread_join t v\npthread_join t v\nsay v\nend\nhistory\n1 p0 run t1\n2 t1 pthread_create default w 4 = 2\n3 p1 run t2\n4 t1 pthread_join 2 = blocks\n5 t2 end 5\n6 p0 run t1\n7 t1 ret = 5\n8 t1 pthread_join 2 = 5\n9 t1 say 5\n10 t1 end 0\nstop finished\n";
+
+const THREE: &[u8] =
+    b"dcethr 1\nroutine w a\nsay a\nend\nroutine main a\nlocal t\npthread_create t default w 1\npthread_create t default w 2\npthread_create t default w 3\nend\n";
+
+/// Each new thread runs on the first processor that is free when the round comes there.
+const THREE_BY_SIXTEEN: &[u8] =
+    b"dcethr journal 1\nworkers 16\nscript 10\ndcethr 1\nroutine w a\nsay a\nend\nroutine main a\nlocal t\npthread_create t default w 1\npthread_create t default w 2\npthread_create t default w 3\nend\nhistory\n1 p0 run t1\n2 t1 pthread_create default w 1 = 2\n3 p1 run t2\n4 t1 pthread_create default w 2 = 3\n5 t2 say 1\n6 p2 run t3\n7 t1 pthread_create default w 3 = 4\n8 t2 end 0\n9 t3 say 2\n10 p3 run t4\n11 t1 end 0\n12 t3 end 0\n13 t4 say 3\n14 t4 end 0\nstop finished\n";
+
 /// The words, parted by spaces, the input, and the status and the text that they give.
-const CASES: [(&str, &[u8], u8, &[u8]); 59] = [
+const CASES: [(&str, &[u8], u8, &[u8]); 62] = [
     ("run 1", SEVEN, 0, SEVEN_JOURNAL),
     ("run 1", MANY, 0, MANY_JOURNAL),
     ("run 1", NONE_SAID, 0, NONE_SAID_JOURNAL),
@@ -123,24 +141,29 @@ const CASES: [(&str, &[u8], u8, &[u8]); 59] = [
         2,
         b"refused F17 line 3\n",
     ),
-    // a fault of the text comes before a line that is not built
     (
         "run 1",
         b"dcethr 1\nroutine main a\npthread_yield\nraise a\nend\n",
         2,
         b"refused F17 line 4\n",
     ),
+    // threads and processors
+    ("run 1", JOINED, 0, JOINED_JOURNAL),
+    ("run 2", JOINED, 0, JOINED_BY_TWO),
+    ("run 16", THREE, 0, THREE_BY_SIXTEEN),
+    // nothing can go on
     (
         "run 1",
-        b"\ndcethr 1\n\nmutex m\nroutine main a\nend\nroutine w a\npthread_mutex_lock m\npthread_yield\nend\n",
-        2,
-        b"refused not built line 6\n",
+        b"dcethr 1\nmutex m\nroutine main a\npthread_mutex_init m default\npthread_mutex_lock m\npthread_mutex_lock m\nend\n",
+        6,
+        b"dcethr journal 1\nworkers 1\nscript 7\ndcethr 1\nmutex m\nroutine main a\npthread_mutex_init m default\npthread_mutex_lock m\npthread_mutex_lock m\nend\nhistory\n1 p0 run t1\n2 t1 pthread_mutex_init m default = ok\n3 t1 pthread_mutex_lock m = ok\n4 t1 pthread_mutex_lock m = blocks\nstop deadlock 1 t1\n",
     ),
+    // the lines come to the limit
     (
-        "run 1",
-        b"dcethr 1\nroutine main a\nif a\ntry\nset a 1\ncatch_all\npthread_yield\nendtry\nend\nend\n",
-        2,
-        b"refused not built line 7\n",
+        "run 2",
+        b"dcethr 1\nlimit 5\nroutine w a\nwhile 1\nend\nend\nroutine main a\nlocal t\npthread_create t default w 0\nwhile 1\nend\nend\n",
+        7,
+        b"dcethr journal 1\nworkers 2\nscript 12\ndcethr 1\nlimit 5\nroutine w a\nwhile 1\nend\nend\nroutine main a\nlocal t\npthread_create t default w 0\nwhile 1\nend\nend\nhistory\n1 p0 run t1\n2 t1 pthread_create default w 0 = 2\n3 p1 run t2\n4 t1 pause\n5 t2 pause\nstop limit\n",
     ),
     // one thread: unwindings, routines, shared variables, numbers, and the limit
     (
