@@ -1,5 +1,5 @@
 -- Rounds of the processors.
-use Rattle.std.proofs.Common.{◌≡◌, ◌≢◌, ◌<◌, ◌≤◌, ℕ, Bool, true, false, cond, List, [], ◌∷◌, ◌++◌, length, length-append, refl, sym, ap, ◌∙◌, subst, arith, Option, Some, None, ◌+◌}
+use Rattle.std.proofs.Common.{◌≡◌, ◌≢◌, ◌<◌, ◌≤◌, ℕ, Bool, true, false, cond, List, [], ◌∷◌, ◌++◌, length, length-append, refl, sym, ap, ◌∙◌, subst, arith, Option, Some, None}
 use Rattle.std.proofs.lemmas.Bool.Decides.{nat_tests}
 use Rattle.std.specs.Prelude.{is_some, nat_le, ◌||◌}
 use Rattle.std.specs.List.{filter, list_any}
@@ -18,7 +18,6 @@ use Rattle.thr_parts.specs.Rows.{Rows, Seated, place_in, best, best_of, standing
 use Rattle.thr_parts.specs.Dispatch.{runs_on, first, running, can_run, some_can_run}
 use Rattle.thr_parts.specs.Expiry.{earliest}
 use Rattle.thr_model.specs.States.{State}
-use Rattle.thr_model.specs.Turns.{Made}
 use Rattle.thr_model.specs.Events.{made_by, clock_of, clock_to}
 use Rattle.thr_model.specs.Histories.{Execution, History, limit_of, stop_with, stop_at}
 use Rattle.thr_machine.specs.Views.{BookView}
