@@ -1,2 +1,14 @@
 pub mod Returning
 pub mod Finallys
+pub mod Marking
+pub mod Resting
+pub mod CallsRest
+pub mod TurnsRest
+pub mod WokenWaits
+pub mod Signalling
+pub mod CallsCome
+pub mod OthersTurns
+pub mod OwnTurns
+pub mod ClockMoves
+pub mod SignalHistories
+pub mod Broadcasts

@@ -1,2 +1,4 @@
 pub mod Returning
 pub mod Finallys
+pub mod Signals
+pub mod Broadcasts
