@@ -1,3 +1,4 @@
+pub mod AbleLaws
 pub mod BestLaws
 pub mod AgreementLaws
 pub mod AgreedCalls

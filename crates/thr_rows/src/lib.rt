@@ -4,6 +4,7 @@
 pub mod laws;
 mod places;
 mod rows;
+mod seating;
 mod seats;
 mod slices;
 mod stops;

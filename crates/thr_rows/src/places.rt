@@ -1,7 +1,7 @@
 //! One place, in a row or on a processor.
 ghost use Rattle.std.specs.Prelude.{◌≡◌, is_none};
 ghost use Rattle.thr_parts.specs.Rows.{is_same_row, place_in, row_in, arrival_in};
-ghost use Rattle.thr_parts.specs.Dispatch.{runs_on};
+ghost use Rattle.thr_parts.specs.Dispatch.{runs_on, can_run};
 
 use thr_parts::row::{Place, RowId};
 
@@ -50,6 +50,16 @@ pub fn is_running(place: Place) -> bool
     match place {
         Place::Runs(_, _) => true,
         Place::Stands(_, _) => false,
+    }
+}
+
+/// The thread at this place is ready or runs.
+pub fn can_run(place: Place) -> bool
+    ensures { result ≡ can_run place }
+{
+    match place {
+        Place::Runs(_, _) => true,
+        Place::Stands(row, _) => matches!(row, RowId::Ready),
     }
 }
 

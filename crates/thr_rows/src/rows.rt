@@ -7,21 +7,18 @@ ghost use Rattle.thr_parts.specs.Dispatch.{running, next_for, dispatch, gives_wa
 ghost use Rattle.thr_rows.specs.Room.{HasRoom, HasRoomToWait, HasArrivalLeft};
 
 use crate::places;
+use crate::seating::Seating;
 use crate::seats::{self, Entry};
 use crate::slices::{self, WHOLE_SLICE};
 use std::alloc::Global;
 use std::marker::Model;
 use thr_parts::row::{Place, RowId, Seat};
-use thr_tables::Numbered;
 use thr_values::number::{NoMemory, Tid};
-
-/// How many threads can stand in rows or run.
-const MOST: usize = 1024;
 
 /// The threads that stand in a row or run, and the next arrival number (docs/machine.md, "Rows").
 #[derive(Drop)]
 pub struct Rows {
-    pub(crate) seats: Numbered<Seat, MOST>,
+    pub(crate) seats: Seating,
     next_arrival: u64,
 }
 
@@ -38,7 +35,7 @@ impl Rows {
     pub fn new(alloc: Global) -> Result<Rows, NoMemory>
         ensures { IfOk result (λ rows. rows ≡ no_rows) }
     {
-        let seats = Numbered::new(alloc)?;
+        let seats = Seating::new(alloc)?;
         Ok(Rows {
             seats,
             next_arrival: 0,
@@ -94,7 +91,13 @@ impl Rows {
         ensures best { result ≡ best_of (standing self.now row) }
         ensures known { IfSome result (λ e. has self.now.seats e.0 ≡ true) }
     {
-        seats::best_in(self.seats.entries(), row)
+        match row {
+            RowId::Ready => {
+                let _rises = self.seats.len();
+                seats::best_in(self.seats.able(), RowId::Ready)
+            }
+            _ => seats::best_in(self.seats.entries(), row),
+        }
     }
 
     /// The best thread of the row.
@@ -177,7 +180,7 @@ impl Rows {
     pub fn running(&self, p: u32) -> Option<Tid>
         ensures { result ≡ running self.now p }
     {
-        match seats::first_on(self.seats.entries(), p) {
+        match seats::first_on(self.seats.able(), p) {
             None => None,
             Some(entry) => Some(Tid(entry.0)),
         }

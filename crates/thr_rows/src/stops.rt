@@ -3,19 +3,9 @@ ghost use Rattle.std.specs.Prelude.{◌≡◌};
 ghost use Rattle.std.specs.List.{list_any};
 ghost use Rattle.thr_parts.specs.Dispatch.{can_run, some_can_run};
 
+use crate::places::can_run;
 use crate::rows::Rows;
 use crate::seats::Entry;
-use thr_parts::row::{Place, RowId};
-
-/// The thread at this place is ready or runs.
-fn can_run(place: Place) -> bool
-    ensures { result ≡ can_run place }
-{
-    match place {
-        Place::Runs(_, _) => true,
-        Place::Stands(row, _) => matches!(row, RowId::Ready),
-    }
-}
 
 /// One of these is ready or runs.
 fn any_can_run(seats: &[Entry]) -> bool
@@ -25,10 +15,10 @@ fn any_can_run(seats: &[Entry]) -> bool
 }
 
 impl Rows {
-    /// Some thread is ready or runs (docs/machine.md, "Stops"). It looks at each seat once at most.
+    /// Some thread is ready or runs (docs/machine.md, "Stops"). It looks at one seat at most.
     pub fn some_can_run(&self) -> bool
         ensures { result ≡ some_can_run self.now }
     {
-        any_can_run(self.seats.entries())
+        any_can_run(self.seats.able())
     }
 }
