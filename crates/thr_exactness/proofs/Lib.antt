@@ -1,0 +1,10 @@
+pub mod Decimals
+pub mod Joins
+pub mod FormedNames
+pub mod LineKinds
+pub mod SameWords
+pub mod Spaces
+pub mod SameArguments
+pub mod SameLines
+pub mod InFront
+pub mod Exact
