@@ -112,7 +112,6 @@ wrong_of s n entries stop = wrong_in (length entries + 1) s n stop 0 (opening s)
 abbrev pub first_wrong : Journal → Option Differs
 first_wrong j = option_map (λ w. differs_at j.script j.entries j.stop w.place w.right) (wrong_of j.script j.workers j.entries j.stop)
 
--- A line differs exactly where the history isn't legal. This is stated here alone, and is to be a contract of the verifier; that
--- no line of a legal history differs is proved in `src/laws.rt` (docs/theorems.md, "Stated and not proved").
+-- A line differs exactly where the history isn't legal (docs/journal.md, "The verdict").
 abbrev pub FirstWrongIsExact : Journal → Type 0
 FirstWrongIsExact j = FormedJournal j → ((first_wrong j ≡ None) ↔ Legal j.script j.workers j.entries j.stop)
