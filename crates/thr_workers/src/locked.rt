@@ -1,0 +1,176 @@
+//! What lies under the lock: the book, and the total of the turns that were counted.
+
+ghost use Rattle.std.specs.Prelude.{◌≡◌, ◌+◌, ◌<◌, ◌⊎◌, true, false, IsSome, OnOk, OnErr, None, vec_len};
+ghost use Rattle.std.specs.Coded.{codes};
+ghost use Rattle.thr_syntax.specs.contracts.tree.Stmt as stmt;
+ghost use Rattle.thr_syntax.specs.contracts.expr.Expr as expr;
+ghost use Rattle.thr_parts.specs.Dispatch.{running};
+ghost use Rattle.thr_machine.specs.Books.{IsOpen};
+ghost use Rattle.thr_workers.specs.Runs.{IsOver, HasCause, SameRun, IsOneEvent, IsLeft};
+ghost use Rattle.thr_workers.specs.declared.locked.Found.TheVariants as found;
+
+use crate::count::{Count, Naming};
+use std::sync::Wait;
+use std::sync::ledger::Book as Tally;
+use thr_machine::book::Book;
+use thr_values::number::NoMemory;
+
+/// What a worker finds for its processor.
+#[derive(Clone, Copy, Debug, PartialEq, Eq)]
+pub enum Found {
+    /// The book is stopped, or no memory was found.
+    Over,
+    /// The processor has a thread.
+    Thread,
+    /// It has none, and another event was made.
+    Changed,
+    /// There is nothing to do.
+    Nothing,
+}
+
+/// What lies under the lock. The book is the one that is named, and as many turns were counted as it has made.
+#[derive(Drop)]
+pub struct Locked<N: Naming> {
+    pub book: Book,
+    total: Tally<N>,
+    no_memory: bool,
+    pub ghost over: { IsOver book N.script N.workers } by { Prim.hlevel (codes, stmt.the_row.coded, expr.the_row.coded) },
+    pub ghost counted: { total.total ≡ book.turns },
+    pub ghost cause: { HasCause book },
+}
+
+impl<N: Naming> Locked<N> {
+    /// A book that was opened now, of which nothing was counted.
+    pub fn new(book: Book, total: Tally<N>) -> Locked<N>
+        requires over { IsOver book N.script N.workers }
+        requires none { book.turns ≡ 0 }
+        requires going { book.stopped ≡ None }
+        requires total { total.total ≡ 0 }
+    {
+        Locked {
+            book,
+            total,
+            no_memory: false,
+        }
+    }
+
+    /// Makes the stop where one holds, and takes the memory for one event. The answer is whether an event may be made.
+    fn opens(&mut self) -> bool
+        ensures open { result ≡ true → IsOpen self.new.book }
+        ensures left { result ≡ false → IsLeft self.new.book self.new.no_memory }
+        ensures same { SameRun self.old.book self.new.book }
+    {
+        if self.no_memory || self.book.stopped().is_some() {
+            return false;
+        }
+        if let Some(why) = self.book.stop_test() {
+            self.book.stop(why);
+            return false;
+        }
+        if self.book.make_room().is_err() {
+            self.no_memory = true;
+            return false;
+        }
+        true
+    }
+
+    /// Looks for a thread on the processor. Without one it makes a dispatch, or else a move of the clock.
+    pub fn look(&mut self, p: u32) -> Found
+        ensures event { IsOneEvent self.old.book self.new.book }
+        ensures left { result ≡ found.Over → IsLeft self.new.book self.new.no_memory }
+        ensures thread { result ≡ found.Thread → IsSome (running self.new.book.state.rows p) }
+    {
+        if !self.opens() {
+            return Found::Over;
+        }
+        if self.book.running(p).is_some() {
+            return Found::Thread;
+        }
+        if let Some(_taken) = self.book.dispatch(p) {
+            return Found::Changed;
+        }
+        if self.book.clock() {
+            return Found::Changed;
+        }
+        Found::Nothing
+    }
+
+    /// Makes a turn of the processor's thread and counts it, where the processor still has one. The answer is whether it did.
+    pub fn commit(&mut self, p: u32, mine: &mut Count<N>) -> bool
+        ensures event { IsOneEvent self.old.book self.new.book }
+        ensures made { result ≡ true → mine.new.turns ≡ mine.old.turns + 1 }
+        ensures idle { result ≡ false → IsLeft self.new.book self.new.no_memory ⊎ (running self.new.book.state.rows p ≡ None) }
+        ensures counted { self.new.book.turns + mine.old.turns ≡ self.old.book.turns + mine.new.turns }
+    {
+        if !self.opens() {
+            return false;
+        }
+        if self.book.running(p).is_none() {
+            return false;
+        }
+        let Count { turns, share } = mine;
+        let Locked { total, book, .. } = self;
+        book.turn(p);
+        total.add(share, 1);
+        total.audit(share);
+        let _made = book.turns();
+        *turns += 1;
+        true
+    }
+
+    /// Goes once round the processors, and makes an event at each, as long as the book is not stopped. Where no event was
+    /// made the clock moves.
+    fn round(&mut self, workers: u32, mine: &mut Count<N>) {
+        for p in 0..workers {
+            if self.look(p) == Found::Thread {
+                self.commit(p, mine);
+            }
+        }
+    }
+
+    /// Goes on alone until the book is stopped.
+    pub fn finish<R: Wait>(
+        &mut self,
+        rt: &R,
+        workers: u32,
+        mine: &mut Count<N>,
+    ) -> Result<(), NoMemory>
+        ensures over { OnOk result (IsSome self.new.book.stopped) }
+        ensures none { OnErr result (self.new.no_memory ≡ true) }
+    {
+        for _ in rt.forever() {
+            if self.book.stopped().is_some() {
+                return Ok(());
+            }
+            if self.no_memory {
+                return Err(NoMemory);
+            }
+            self.round(workers, mine);
+        }
+        unreachable!()
+    }
+
+    /// The book, and what all have counted.
+    pub fn gather(self, mine: Count<N>, counts: Vec<Count<N>>) -> (Book, u64)
+        requires { vec_len counts + 1 ≡ N.parts }
+        ensures book { result.0 ≡ self.book }
+        ensures cause { HasCause result.0 }
+        ensures counted { result.1 ≡ self.book.turns }
+    {
+        let Locked { book, total, .. } = self;
+        let Count { turns, share } = mine;
+        let mut total = total;
+        let mut all = share;
+        let mut counts = counts;
+        let made = book.turns();
+        let mut sum = turns;
+        while let Some(count) = counts.pop() {
+            let Count { turns, share } = count;
+            all.merge(share);
+            total.audit(&mut all);
+            sum += turns;
+        }
+        total.audit(&mut all);
+        (book, sum)
+    }
+}
