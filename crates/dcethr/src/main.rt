@@ -1,4 +1,5 @@
-//! Runs thread scripts: `dcethr run 1` reads a script from standard input and writes its journal to standard output.
+//! Runs thread scripts: `dcethr run W` reads a script from standard input, runs it on W worker threads, and writes its journal to
+//! standard output.
 #![tactic(auto)]
 
 use std::env;
@@ -6,6 +7,7 @@ use std::process::ExitCode;
 use thr_top::command::{Status, Word};
 use thr_top::top::top;
 use thr_wire::standard::{StdSink, StdSource};
+use thr_workers::gate::NoGate;
 
 fn main(rt: HostRuntime) -> ExitCode {
     let alloc = rt.alloc();
@@ -20,6 +22,13 @@ fn main(rt: HostRuntime) -> ExitCode {
     }
     let mut source = StdSource::new(rt.stdin());
     let mut sink = StdSink::new(rt.stdout());
-    let Status(code) = top(alloc, words.as_slice(), &mut source, &mut sink);
+    let Status(code) = top(
+        &rt,
+        alloc,
+        words.as_slice(),
+        &mut source,
+        &mut sink,
+        &NoGate,
+    );
     ExitCode::from(code)
 }

@@ -11,6 +11,8 @@ use crate::check::{MAX_SCRIPT, plain_top, refuse};
 use crate::command::{Status, Word, workers_of};
 use crate::run::history_of;
 use std::alloc::Global;
+use std::sync::Wait;
+use std::thread::Threads;
 use thr_grammar::parse;
 use thr_journal::print;
 use thr_syntax::tree::Script;
@@ -19,6 +21,7 @@ use thr_values::event::Stop;
 use thr_wire::fault::WireFault;
 use thr_wire::whole::read_all;
 use thr_wire::wire::{Sink, Source};
+use thr_workers::gate::Gate;
 
 /// The status that goes with a stop.
 fn status_of(stop: Stop) -> u8
@@ -34,7 +37,14 @@ fn status_of(stop: Stop) -> u8
 }
 
 /// Runs a script on so many workers and writes its journal.
-fn run_script<K: Sink>(alloc: Global, script: Script, workers: u32, sink: &mut K) -> Status
+fn run_script<K: Sink, R: Threads + Wait + Sync, G: Gate + Sync>(
+    rt: &R,
+    alloc: Global,
+    script: Script,
+    workers: u32,
+    sink: &mut K,
+    gate: &G,
+) -> Status
     requires formed { Formed script }
     requires some { 1 ≤ workers }
     requires few { workers ≤ 16 }
@@ -43,7 +53,7 @@ fn run_script<K: Sink>(alloc: Global, script: Script, workers: u32, sink: &mut K
     ensures write { result.0 ≡ 4 → Rose (K.faults sink.old) (K.faults sink.new) }
     ensures quiet { result.0 ≢ 4 → K.faults sink.new ≡ K.faults sink.old }
 {
-    let Ok(journal) = history_of(alloc, script, workers) else {
+    let Ok(journal) = history_of(rt, alloc, script, workers, gate) else {
         return Status(5);
     };
     let Ok(text) = print(alloc, &journal) else {
@@ -53,7 +63,14 @@ fn run_script<K: Sink>(alloc: Global, script: Script, workers: u32, sink: &mut K
 }
 
 /// Answers `run` with so many workers on an input that was read whole.
-fn run_input<K: Sink>(alloc: Global, input: &[u8], workers: u32, sink: &mut K) -> Status
+fn run_input<K: Sink, R: Threads + Wait + Sync, G: Gate + Sync>(
+    rt: &R,
+    alloc: Global,
+    input: &[u8],
+    workers: u32,
+    sink: &mut K,
+    gate: &G,
+) -> Status
     requires short { length input.now ≤ max_script }
     requires some { 1 ≤ workers }
     requires few { workers ≤ 16 }
@@ -64,14 +81,21 @@ fn run_input<K: Sink>(alloc: Global, input: &[u8], workers: u32, sink: &mut K) -
     ensures known { (result.0 ≤ 7) × (result.0 ≢ 1) × (result.0 ≢ 3) }
 {
     match parse(alloc, input) {
-        Ok(script) => run_script(alloc, script, workers, sink),
+        Ok(script) => run_script(rt, alloc, script, workers, sink, gate),
         Err(ParseFault::Refused(place)) => refuse(alloc, place, sink),
         Err(ParseFault::NoMemory) => Status(5),
     }
 }
 
 /// Does what `run` says with so many workers.
-fn run_on<S: Source, K: Sink>(alloc: Global, workers: u32, source: &mut S, sink: &mut K) -> Status
+fn run_on<S: Source, K: Sink, R: Threads + Wait + Sync, G: Gate + Sync>(
+    rt: &R,
+    alloc: Global,
+    workers: u32,
+    source: &mut S,
+    sink: &mut K,
+    gate: &G,
+) -> Status
     requires some { 1 ≤ workers }
     requires few { workers ≤ 16 }
     ensures at_most { TookAtMost (max_script + 1) (S.left source.old) (S.left source.new) }
@@ -87,7 +111,7 @@ fn run_on<S: Source, K: Sink>(alloc: Global, workers: u32, source: &mut S, sink:
     ensures known { (result.0 ≤ 7) × (result.0 ≢ 1) }
 {
     match read_all(alloc, source, MAX_SCRIPT) {
-        Ok(input) => run_input(alloc, input.as_slice(), workers, sink),
+        Ok(input) => run_input(rt, alloc, input.as_slice(), workers, sink, gate),
         Err(WireFault::ReadFault) => Status(3),
         Err(WireFault::TooLong) => give(sink, 2, b"refused too long\n"),
         Err(WireFault::NoMemory) => Status(5),
@@ -95,12 +119,15 @@ fn run_on<S: Source, K: Sink>(alloc: Global, workers: u32, source: &mut S, sink:
 }
 
 /// Does what the words say: reads the source, writes the sink and answers the status that the program ends with
-/// (docs/theorems.md, "The top call"). It is called by `main`, and waits for nobody.
-pub fn top<S: Source, K: Sink>(
+/// (docs/theorems.md, "The top call"). `run` goes by worker threads, one for each processor, which pass the gate without a lock. It is
+/// called by `main`. It may never return, since workers wait for one another, and so may the gate.
+pub fn top<S: Source, K: Sink, R: Threads + Wait + Sync, G: Gate + Sync>(
+    rt: &R,
     alloc: Global,
     words: &[Word],
     source: &mut S,
     sink: &mut K,
+    gate: &G,
 ) -> Status
     // Words of no form get the usage line, and nothing is read.
     ensures usage { ¬ (IsCommand words.now) → Writes (K.held sink.old) (K.held sink.new) result.0 1 usage }
@@ -136,7 +163,7 @@ pub fn top<S: Source, K: Sink>(
     ensures only_run { (result.0 ≡ 6) ⊎ (result.0 ≡ 7) → AsksRun words.now }
 {
     match workers_of(words) {
-        Some(workers) => run_on(alloc, workers, source, sink),
+        Some(workers) => run_on(rt, alloc, workers, source, sink, gate),
         None => plain_top(alloc, words, source, sink),
     }
 }

@@ -9,6 +9,7 @@ use thr_wire::good::{GoodSink, GoodSource};
 use thr_wire::mem::{MemSink, MemSource};
 use thr_wire::standard::{StdSink, StdSource};
 use thr_wire::whole::{read_all, write_all};
+use thr_workers::gate::NoGate;
 
 const USAGE: &[u8] = b"usage: dcethr run W | check | verify | report | make N T | trial N W\n";
 
@@ -42,19 +43,11 @@ const JOINED: &[u8] =
 const JOINED_JOURNAL: &[u8] =
     b"dcethr journal 1\nworkers 1\nscript 12\ndcethr 1\nroutine w a\nreturn + a 1\nend\nroutine main a\nlocal t\nlocal v\npthread_create t default w 4\npthread_join t v\npthread_join t v\nsay v\nend\nhistory\n1 p0 run t1\n2 t1 pthread_create default w 4 = 2\n3 t1 pthread_join 2 = blocks\n4 p0 run t2\n5 t2 end 5\n6 p0 run t1\n7 t1 ret = 5\n8 t1 pthread_join 2 = 5\n9 t1 say 5\n10 t1 end 0\nstop finished\n";
 
-/// With two workers the new thread runs while the first one comes to its join.
-const JOINED_BY_TWO: &[u8] =
-    b"dcethr journal 1\nworkers 2\nscript 12\ndcethr 1\nroutine w a\nreturn + a 1\nend\nroutine main a\nlocal t\nlocal v\npthread_create t default w 4\npthread_join t v\npthread_join t v\nsay v\nend\nhistory\n1 p0 run t1\n2 t1 pthread_create default w 4 = 2\n3 p1 run t2\n4 t1 pthread_join 2 = blocks\n5 t2 end 5\n6 p0 run t1\n7 t1 ret = 5\n8 t1 pthread_join 2 = 5\n9 t1 say 5\n10 t1 end 0\nstop finished\n";
-
 const THREE: &[u8] =
     b"dcethr 1\nroutine w a\nsay a\nend\nroutine main a\nlocal t\npthread_create t default w 1\npthread_create t default w 2\npthread_create t default w 3\nend\n";
 
-/// Each new thread runs on the first processor that is free when the round comes there.
-const THREE_BY_SIXTEEN: &[u8] =
-    b"dcethr journal 1\nworkers 16\nscript 10\ndcethr 1\nroutine w a\nsay a\nend\nroutine main a\nlocal t\npthread_create t default w 1\npthread_create t default w 2\npthread_create t default w 3\nend\nhistory\n1 p0 run t1\n2 t1 pthread_create default w 1 = 2\n3 p1 run t2\n4 t1 pthread_create default w 2 = 3\n5 t2 say 1\n6 p2 run t3\n7 t1 pthread_create default w 3 = 4\n8 t2 end 0\n9 t3 say 2\n10 p3 run t4\n11 t1 end 0\n12 t3 end 0\n13 t4 say 3\n14 t4 end 0\nstop finished\n";
-
 /// The words, parted by spaces, the input, and the status and the text that they give.
-const CASES: [(&str, &[u8], u8, &[u8]); 62] = [
+const CASES: [(&str, &[u8], u8, &[u8]); 59] = [
     ("run 1", SEVEN, 0, SEVEN_JOURNAL),
     ("run 1", MANY, 0, MANY_JOURNAL),
     ("run 1", NONE_SAID, 0, NONE_SAID_JOURNAL),
@@ -149,8 +142,6 @@ const CASES: [(&str, &[u8], u8, &[u8]); 62] = [
     ),
     // threads and processors
     ("run 1", JOINED, 0, JOINED_JOURNAL),
-    ("run 2", JOINED, 0, JOINED_BY_TWO),
-    ("run 16", THREE, 0, THREE_BY_SIXTEEN),
     // nothing can go on
     (
         "run 1",
@@ -159,12 +150,6 @@ const CASES: [(&str, &[u8], u8, &[u8]); 62] = [
         b"dcethr journal 1\nworkers 1\nscript 7\ndcethr 1\nmutex m\nroutine main a\npthread_mutex_init m default\npthread_mutex_lock m\npthread_mutex_lock m\nend\nhistory\n1 p0 run t1\n2 t1 pthread_mutex_init m default = ok\n3 t1 pthread_mutex_lock m = ok\n4 t1 pthread_mutex_lock m = blocks\nstop deadlock 1 t1\n",
     ),
     // the lines come to the limit
-    (
-        "run 2",
-        b"dcethr 1\nlimit 5\nroutine w a\nwhile 1\nend\nend\nroutine main a\nlocal t\npthread_create t default w 0\nwhile 1\nend\nend\n",
-        7,
-        b"dcethr journal 1\nworkers 2\nscript 12\ndcethr 1\nlimit 5\nroutine w a\nwhile 1\nend\nend\nroutine main a\nlocal t\npthread_create t default w 0\nwhile 1\nend\nend\nhistory\n1 p0 run t1\n2 t1 pthread_create default w 0 = 2\n3 p1 run t2\n4 t1 pause\n5 t2 pause\nstop limit\n",
-    ),
     // one thread: unwindings, routines, shared variables, numbers, and the limit
     (
         "run 1",
@@ -348,9 +333,78 @@ fn each_input_gives_its_text(rt: HostRuntime) -> Result<(), Fail> {
         let words = words_of(alloc, line)?;
         let mut source = GoodSource::new(Vec::from_slice(alloc, input)?);
         let mut sink = GoodSink::new(alloc);
-        let Status(got) = top(alloc, words.as_slice(), &mut source, &mut sink);
+        let Status(got) = top(
+            &rt,
+            alloc,
+            words.as_slice(),
+            &mut source,
+            &mut sink,
+            &NoGate,
+        );
         assert_eq!(rt; got, status, "{input:?}");
         assert_eq!(rt; sink.as_slice(), text, "{input:?}");
+    }
+    Ok(())
+}
+
+/// What more than one worker makes: the script, the status, and lines that stand in the history in this order, whoever ran when.
+const BY_MORE: [(&[u8], u8, [&[u8]; 3]); 3] = [
+    (
+        JOINED,
+        0,
+        [b" t2 end 5\n", b" t1 say 5\n", b"\nstop finished\n"],
+    ),
+    (THREE, 0, [b" say 1\n", b" end 0\n", b"\nstop finished\n"]),
+    (
+        b"dcethr 1\nlimit 5\nroutine w a\nwhile 1\nend\nend\nroutine main a\nlocal t\npthread_create t default w 0\nwhile 1\nend\nend\n",
+        7,
+        [
+            b" t1 pthread_create default w 0 = 2\n",
+            b" pause\n",
+            b"\nstop limit\n",
+        ],
+    ),
+];
+
+/// Where the part stands in the text, at or after this place; past the text's end where it doesn't.
+fn place_of(text: &[u8], part: &[u8], from: usize) -> usize {
+    let mut i = from;
+    while i < text.len() {
+        if text[i..].starts_with(part) {
+            return i;
+        }
+        i += 1;
+    }
+    text.len()
+}
+
+#[test]
+fn more_workers_come_to_the_stop(rt: HostRuntime) -> Result<(), Fail> {
+    let alloc = rt.alloc();
+    for (input, status, lines) in BY_MORE {
+        for workers in 2..17u32 {
+            let line = format!(in alloc; "run {workers}")?;
+            let words = words_of(alloc, line.as_str())?;
+            let mut source = GoodSource::new(Vec::from_slice(alloc, input)?);
+            let mut sink = GoodSink::new(alloc);
+            let Status(got) = top(
+                &rt,
+                alloc,
+                words.as_slice(),
+                &mut source,
+                &mut sink,
+                &NoGate,
+            );
+            assert_eq!(rt; got, status, "{workers}");
+            let text = sink.as_slice();
+            let first = format!(in alloc; "dcethr journal 1\nworkers {workers}\n")?;
+            assert!(rt; text.starts_with(first.as_bytes()));
+            let mut from = 0;
+            for part in lines {
+                from = place_of(text, part, from);
+                assert!(rt; from < text.len(), "{workers}");
+            }
+        }
     }
     Ok(())
 }
@@ -377,7 +431,14 @@ fn devices_fail_and_move_little(rt: HostRuntime) -> Result<(), Fail> {
         let input = Vec::from_slice(alloc, SEVEN)?;
         let mut source = MemSource::new(input, gives, vec![in alloc; reading]?);
         let mut sink = MemSink::new(alloc, takes, vec![in alloc; writing]?);
-        let Status(got) = top(alloc, words.as_slice(), &mut source, &mut sink);
+        let Status(got) = top(
+            &rt,
+            alloc,
+            words.as_slice(),
+            &mut source,
+            &mut sink,
+            &NoGate,
+        );
         assert_eq!(rt; got, status);
         assert_eq!(rt; sink.as_slice(), text);
         // Nothing is read after a call that fails.
@@ -397,7 +458,14 @@ fn the_limit_on_bytes_is_exact(rt: HostRuntime) -> Result<(), Fail> {
         ] {
             let mut source = GoodSource::new(vec![in alloc; b' '; count]?);
             let mut sink = GoodSink::new(alloc);
-            let Status(got) = top(alloc, words.as_slice(), &mut source, &mut sink);
+            let Status(got) = top(
+                &rt,
+                alloc,
+                words.as_slice(),
+                &mut source,
+                &mut sink,
+                &NoGate,
+            );
             assert_eq!(rt; got, 2);
             assert_eq!(rt; sink.as_slice(), text.as_bytes());
         }
@@ -522,7 +590,14 @@ fn the_limits_of_a_script_are_exact(rt: HostRuntime) -> Result<(), Fail> {
         )?;
         let mut source = GoodSource::new(repeated(alloc, before, line, count, after)?);
         let mut sink = GoodSink::new(alloc);
-        let Status(got) = top(alloc, words.as_slice(), &mut source, &mut sink);
+        let Status(got) = top(
+            &rt,
+            alloc,
+            words.as_slice(),
+            &mut source,
+            &mut sink,
+            &NoGate,
+        );
         if refusal.is_empty() {
             assert_eq!(rt; got, 0, "{count}");
             assert_eq!(rt; sink.as_slice(), canonical.as_slice(), "{count}");
@@ -551,7 +626,14 @@ fn the_limit_on_depth_is_exact(rt: HostRuntime) -> Result<(), Fail> {
         let expected = Vec::from_slice(alloc, script.as_slice())?;
         let mut source = GoodSource::new(script);
         let mut sink = GoodSink::new(alloc);
-        let Status(got) = top(alloc, words.as_slice(), &mut source, &mut sink);
+        let Status(got) = top(
+            &rt,
+            alloc,
+            words.as_slice(),
+            &mut source,
+            &mut sink,
+            &NoGate,
+        );
         assert_eq!(rt; got, status);
         if status == 0 {
             assert_eq!(rt; sink.as_slice(), expected.as_slice());
@@ -574,7 +656,14 @@ fn the_longest_script_runs(rt: HostRuntime) -> Result<(), Fail> {
     script.extend_from_slice(b"end\n")?;
     let mut source = GoodSource::new(script);
     let mut sink = GoodSink::new(alloc);
-    let Status(got) = top(alloc, words.as_slice(), &mut source, &mut sink);
+    let Status(got) = top(
+        &rt,
+        alloc,
+        words.as_slice(),
+        &mut source,
+        &mut sink,
+        &NoGate,
+    );
     assert_eq!(rt; got, 0);
     Ok(())
 }
