@@ -1,8 +1,3 @@
 //! By crate.
 
-mod conds;
-mod copies;
-mod onces;
-mod pipes;
-mod threads;
 mod top;
