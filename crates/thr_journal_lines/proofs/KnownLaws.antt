@@ -1,0 +1,39 @@
+-- The place of a name among the names of a script, and its kind.
+use Rattle.std.proofs.Common.{◌≡◌, ℕ, suc, Bool, true, false, cond, List, [], ◌∷◌, length, Some, None, refl, ap, ◌∙◌, arith}
+use Rattle.std.specs.Prelude.{position, nat_lt}
+use Rattle.std.specs.List.{position_or_len, find}
+use Rattle.std.specs.Option.{option_map}
+use Rattle.std.specs.Map.{keys_of}
+use Rattle.std.specs.Str.{bytes_eq}
+use Rattle.thr_text.specs.Tables.{kind_in}
+use Rattle.thr_journal_lines.specs.declared.names.Known.{Known}
+use Rattle.thr_journal_lines.specs.Known.{entries_in}
+
+place_by : (p : List ℕ → Bool) (k : Known) (ks : List Known) (b : Bool) → p k.name ≡ b → position_or_len p (keys_of (entries_in ks)) ≡ position_or_len (λ (x : Known). p x.name) ks
+    → position_or_len p (keys_of (entries_in (k ∷ ks))) ≡ position_or_len (λ (x : Known). p x.name) (k ∷ ks)
+place_by p k ks true e more = rw e refl
+place_by p k ks false e more = rw e (omega (arith, more))
+
+place_or_end : (p : List ℕ → Bool) (ks : List Known) → position_or_len p (keys_of (entries_in ks)) ≡ position_or_len (λ (x : Known). p x.name) ks
+place_or_end p [] = refl
+place_or_end p (k ∷ ks) = place_by p k ks (p k.name) refl (place_or_end p ks)
+
+as_many : (ks : List Known) → length (keys_of (entries_in ks)) ≡ length ks
+as_many [] = refl
+as_many (k ∷ ks) = ap suc (as_many ks)
+
+pub position_keys : (p : List ℕ → Bool) (ks : List Known) → position p (keys_of (entries_in ks)) ≡ position (λ (x : Known). p x.name) ks
+position_keys p ks = ap (λ (m : ℕ). cond (nat_lt m (length (keys_of (entries_in ks)))) (Some m) None) (place_or_end p ks) ∙ ap (λ (n : ℕ). cond (nat_lt (position_or_len (λ (x : Known). p x.name) ks) n) (Some (position_or_len (λ (x : Known). p x.name) ks)) None) (as_many ks)
+
+-- ---- kinds
+
+kind_by : (text : List ℕ) (k : Known) (ks : List Known) (b : Bool) → bytes_eq text k.name ≡ b → kind_in (entries_in ks) text ≡ option_map (λ (x : Known). x.kind) (find (λ (x : Known). bytes_eq text x.name) ks)
+    → kind_in (entries_in (k ∷ ks)) text ≡ option_map (λ (x : Known). x.kind) (find (λ (x : Known). bytes_eq text x.name) (k ∷ ks))
+unfolding kind_in
+kind_by text k ks true e more = rw e refl
+kind_by text k ks false e more = rw e more
+
+pub kind_found : (text : List ℕ) (ks : List Known) → kind_in (entries_in ks) text ≡ option_map (λ (x : Known). x.kind) (find (λ (x : Known). bytes_eq text x.name) ks)
+unfolding kind_in
+kind_found text [] = refl
+kind_found text (k ∷ ks) = kind_by text k ks (bytes_eq text k.name) refl (kind_found text ks)

@@ -1,0 +1,5 @@
+//! Worked cases.
+
+pub mod lines;
+pub mod numbers;
+pub mod refusals;
