@@ -366,14 +366,12 @@ const BY_MORE: [(&[u8], u8, [&[u8]; 3]); 3] = [
     ),
 ];
 
-/// Where the part stands in the text, at or after this place; past the text's end where it doesn't.
+/// Where the part stands in the text, at or after this place; the text's end where it doesn't.
 fn place_of(text: &[u8], part: &[u8], from: usize) -> usize {
-    let mut i = from;
-    while i < text.len() {
+    for i in from..text.len() {
         if text[i..].starts_with(part) {
             return i;
         }
-        i += 1;
     }
     text.len()
 }
