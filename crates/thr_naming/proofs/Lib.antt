@@ -8,3 +8,5 @@ pub mod Walks
 pub mod FaultLaws
 pub mod EntryLaws
 pub mod MisnamedLaws
+pub mod KindLaws
+pub mod SenseLaws

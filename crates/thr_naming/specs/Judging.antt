@@ -8,7 +8,7 @@ use Rattle.thr_text.specs.declared.head.Head.TheVariants as head
 use Rattle.thr_text.specs.declared.fault.Place.{Place}
 use Rattle.thr_text.specs.Slots.{head_of_line}
 use Rattle.thr_text.specs.Blocks.{Line, shape_of_line}
-use Rattle.thr_text.specs.Tables.{Entry, placed_in, rest_of, declared_in, entries_of, is_declared}
+use Rattle.thr_text.specs.Tables.{Entry, Placed, placed_in, rest_of, declared_in, entries_of, is_declared}
 use Rattle.thr_text.specs.NameFaults.{locals_below, depth_below, is_again_word, is_undeclared, is_misused, is_within, is_out_of_range}
 use Rattle.thr_text.specs.NameFaults.{Sense as Meant, Own, Known, Unknown}
 use Rattle.thr_naming.specs.declared.sense.Sense.{Sense}
@@ -40,6 +40,10 @@ abbrev pub meant : Sense → Meant
 meant sense.Own = Own
 meant (sense.Known kind) = Known kind
 meant sense.Unknown = Unknown
+
+-- The word is a name that refers, and is undeclared or misused.
+abbrev pub is_misnamed : List Entry → List (List ℕ) → Placed → Bool
+is_misnamed whole locals x = is_undeclared whole locals x || is_misused whole locals x
 
 -- ---- a line
 

@@ -7,12 +7,12 @@ ghost use Rattle.thr_text.specs.declared.object.Object.TheVariants as Object;
 ghost use Rattle.thr_text.specs.Tables.{declared_in, kind_in, entries_of};
 ghost use Rattle.thr_text.specs.NameFaults.{is_again_word, is_undeclared, is_misused, is_out_of_range, is_of_kind, sense_of_kind, words_in, name_faults};
 ghost use Rattle.thr_text.specs.Refusals.{IsFirst};
-ghost use Rattle.thr_naming.specs.Judging.{is_further, start, after, limit_number, pipe_number, is_beyond_range, least, misfit, first_misfit, or_no_main, or_too_long, place_of, table_of};
+ghost use Rattle.thr_naming.specs.Judging.{is_misnamed, is_further, start, after, limit_number, pipe_number, is_beyond_range, least, misfit, first_misfit, or_no_main, or_too_long, place_of, table_of};
 ghost use Rattle.thr_naming.specs.Placing.{seen};
 
 use crate::context::{Context, declares};
-use crate::places::{Placed, place, rest};
-use crate::sense::{is_among, is_misused, is_undeclared};
+use crate::places::{Placed, Places, place, rest};
+use crate::sense::{is_among, is_misnamed, is_misused, is_undeclared};
 use crate::table::{Table, table_of};
 use std::alloc::Global;
 use thr_lexer::line::Line;
@@ -53,6 +53,27 @@ fn has_misused(whole: &Table, locals: &[Name], words: &[Placed]) -> bool
     ensures { result ≡ list_any (λ x. is_misused whole.now locals.now (seen x)) words.now }
 {
     words.iter().any(|x| is_misused(whole, locals, x))
+}
+
+fn has_misnamed(whole: &Table, locals: &[Name], words: &[Placed]) -> bool
+    ensures { result ≡ list_any (λ x. is_misnamed whole.now locals.now (seen x)) words.now }
+{
+    words.iter().any(|x| is_misnamed(whole, locals, x))
+}
+
+/// Whether a name is undeclared, and whether one is misused. Most lines have neither, and there each name is looked up once.
+#[tactic(auto, using(crate::proofs::SenseLaws::none_first, crate::proofs::SenseLaws::none_last))]
+fn misnamed(whole: &Table, locals: &[Name], words: &[Placed]) -> (bool, bool)
+    ensures undeclared { result.0 ≡ list_any (λ x. is_undeclared whole.now locals.now (seen x)) words.now }
+    ensures misused { result.1 ≡ list_any (λ x. is_misused whole.now locals.now (seen x)) words.now }
+{
+    if !has_misnamed(whole, locals, words) {
+        return (false, false);
+    }
+    (
+        has_undeclared(whole, locals, words),
+        has_misused(whole, locals, words),
+    )
 }
 
 fn is_further(context: &Context, head: Head) -> bool
@@ -142,11 +163,12 @@ fn least(again: bool, undeclared: bool, misused: bool, beyond: bool) -> Option<u
 }
 
 /// The least fault of a line, which it goes past.
-fn judge_line(
+fn judge_line<'a>(
     alloc: Global,
     whole: &Table,
     context: &mut Context,
-    line: &Line,
+    places: &mut Places<'a>,
+    line: &'a Line,
 ) -> Result<Option<u8>, ParseFault>
     requires depth { context.old.depth + 1 < 2 ^ 64 }
     requires count { context.old.count + 1 < 2 ^ 64 }
@@ -158,14 +180,13 @@ fn judge_line(
 {
     let head = line.head();
     let words = rest(line.words().as_slice());
-    let all = place(alloc, head, words)?;
-    let placed = all.as_slice();
+    place(&mut places.open, &mut places.words, head, words)?;
+    let placed = places.words.as_slice();
     let again = is_again(whole, context, head, placed);
     let one_more = is_one_more(context, line);
     context.pass(alloc, line)?;
     let locals = context.locals.as_slice();
-    let undeclared = has_undeclared(whole, locals, placed);
-    let misused = has_misused(whole, locals, placed);
+    let (undeclared, misused) = misnamed(whole, locals, placed);
     let full = is_full(context);
     let outside = is_out_of_range(head, words);
     Ok(least(again, undeclared, misused, outside | (one_more | full)))
@@ -177,9 +198,10 @@ fn first_misfit(alloc: Global, whole: &Table, lines: &[Line]) -> Result<Option<P
     ensures fault { IfErr result (λ f. f ≡ ParseFault.NoMemory) }
 {
     let mut context = Context::new(alloc)?;
+    let mut places = Places::new(alloc);
     let _count = lines.len();
     for line in lines {
-        if let Some(number) = judge_line(alloc, whole, &mut context, line)? {
+        if let Some(number) = judge_line(alloc, whole, &mut context, &mut places, line)? {
             return Ok(Some(Place {
                 number,
                 line: line.number(),

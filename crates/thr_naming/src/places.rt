@@ -75,6 +75,13 @@ impl Open {
         self.stack.pop()
     }
 
+    /// Closes those that are open.
+    pub fn clear(&mut self)
+        ensures { self.new ≡ [] }
+    {
+        self.stack.clear();
+    }
+
     /// Opens slots before those that are open.
     pub fn push(&mut self, slots: &[Slot]) -> Result<(), ParseFault>
         ensures ok { OnOk result (self.new ≡ slots.now ++ self.old) }
@@ -91,24 +98,41 @@ pub fn rest(words: &[Word]) -> &[Word]
     if words.is_empty() { words } else { &words[1..] }
 }
 
-/// Each of the words after the first with its slot, as far as there are slots.
+/// The words of a line with their slots, and the memory for them, which each line uses anew.
+#[derive(Drop)]
+pub struct Places<'a> {
+    pub open: Open,
+    pub words: Vec<Placed<'a>>,
+}
+
+impl<'a> Places<'a> {
+    pub fn new(alloc: Global) -> Places<'a> {
+        Places {
+            open: Open::new(alloc),
+            words: Vec::new(alloc),
+        }
+    }
+}
+
+/// Each of the words after the first with its slot, as far as there are slots. What was in the list before is taken out.
 pub fn place<'a>(
-    alloc: Global,
+    left: &mut Open,
+    all: &mut Vec<Placed<'a>>,
     head: Head,
     words: &'a [Word],
-) -> Result<Vec<Placed<'a>>, ParseFault>
-    ensures ok { IfOk result (λ r. map seen r.items ≡ placed (slots_of head) words.now) }
+) -> Result<(), ParseFault>
+    ensures ok { OnOk result (map seen all.new.items ≡ placed (slots_of head) words.now) }
     ensures fault { IfErr result (λ f. f ≡ ParseFault.NoMemory) }
 {
-    let mut left = Open::new(alloc);
-    let mut all = Vec::with_capacity(alloc, words.len())?;
+    left.clear();
+    all.clear();
     left.push(head.slots())?;
     for word in words {
         let Some(slot) = left.pop() else {
-            return Ok(all);
+            return Ok(());
         };
         all.push(Placed { slot, word })?;
         left.push(slots_behind(slot, word))?;
     }
-    Ok(all)
+    Ok(())
 }

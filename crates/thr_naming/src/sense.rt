@@ -1,9 +1,9 @@
 //! What names stand for.
 
-ghost use Rattle.std.specs.Prelude.{◌≡◌};
+ghost use Rattle.std.specs.Prelude.{◌≡◌, ◌||◌, not};
 ghost use Rattle.thr_text.specs.Tables.{is_among};
 ghost use Rattle.thr_text.specs.NameFaults.{same_kind, sense_of, is_of_kind, is_own, is_unknown, refers, suits, is_undeclared, is_misused};
-ghost use Rattle.thr_naming.specs.Judging.{meant};
+ghost use Rattle.thr_naming.specs.Judging.{meant, is_misnamed};
 ghost use Rattle.thr_naming.specs.Placing.{seen};
 
 use crate::places::Placed;
@@ -95,6 +95,27 @@ fn suits(slot: Slot, sense: Sense) -> bool
         Slot::Receiver => is_own(sense),
         Slot::Exception => is_of_kind(Object::Exception, sense),
         _ => true,
+    }
+}
+
+/// Whether what stands for a name isn't what its slot asks.
+fn is_wrong(slot: Slot, sense: Sense) -> bool
+    ensures { result ≡ (is_unknown (meant sense) || not (suits slot (meant sense))) }
+{
+    is_unknown(sense) || !suits(slot, sense)
+}
+
+/// Whether the word is a name that refers and is undeclared or misused; what it stands for is looked up once.
+pub fn is_misnamed(whole: &Table, locals: &[Name], x: &Placed) -> bool
+    ensures { result ≡ is_misnamed whole.now locals.now (seen x.now) }
+{
+    match x.word {
+        Word::Name(name) => {
+            refers(x.slot)
+                && is_wrong(x.slot, sense_of(whole, locals, name))
+                && is_name(name.as_slice())
+        }
+        _ => false,
     }
 }
 
