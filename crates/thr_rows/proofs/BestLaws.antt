@@ -1,12 +1,13 @@
 -- The best of a row and the first on a processor, as the code finds them.
-use Rattle.std.proofs.Common.{◌≡◌, ℕ, ◌+◌, ◌-◌, ◌<◌, ◌≤◌, get_or, drop, Bool, true, false, ◌&&◌, ◌||◌, cond, ◌∷◌, length, Option, Some, None, IfSome, refl, sym, arith, ◌∙◌, ap, is_some}
+use Rattle.std.proofs.Common.{◌≡◌, ℕ, ◌+◌, ◌-◌, ◌<◌, ◌≤◌, get_or, drop, slice_get, Bool, true, false, ◌&&◌, ◌||◌, cond, if◌then◌else◌, ◌∷◌, length, Option, Some, None, IfSome, refl, sym, arith, ◌∙◌, ap, is_some}
 use Rattle.std.proofs.lemmas.List.{drop_more, drop_all}
+use Rattle.std.proofs.lemmas.Option.{slice_get_past, slice_get-get_or}
 use Rattle.std.specs.List.{filter}
 use Rattle.thr_parts.specs.declared.row.RowId.{RowId}
 use Rattle.thr_parts.specs.declared.row.RowId.TheVariants as row
 use Rattle.thr_parts.specs.declared.row.Seat.{Seat}
 use Rattle.thr_parts.specs.Tables.{get, has, IsCanonical}
-use Rattle.thr_parts.specs.Rows.{Rows, Seated, place_in, better, best_of, standing, number_in, best}
+use Rattle.thr_parts.specs.Rows.{Rows, Seated, is_before, place_in, better, best_of, standing, number_in, best}
 use Rattle.thr_parts.specs.Dispatch.{runs_on, first, running, is_outranked, is_matched, outranks, matches_rank}
 use Rattle.thr_parts.proofs.TableLaws.{has_get}
 use Rattle.thr_parts.proofs.EntryLaws.{pass, canonical_filter, get_filter}
@@ -42,6 +43,34 @@ best_passed p xs i d found a b is ih =
     let x : ℕ × Seat = get_or xs (i - 1) d in
     sym (ap (λ l. best_of (filter p l)) (drop_more xs (i - 1) d (omega arith) ∙ ap (λ k. x ∷ drop k xs) n)
     ∙ ap (λ c. best_of (cond c (x ∷ filter p (drop i xs)) (filter p (drop i xs)))) is ∙ sym ih)
+
+-- The place of the best so far, which is past the end where none was found.
+pub best_nowhere : (p : ℕ × Seat → Bool) (xs : Seated) (i : ℕ) → length xs ≤ i → slice_get xs i ≡ best_of (filter p (drop i xs))
+best_nowhere p xs i h = slice_get_past xs i h ∙ best_whole p xs i h
+
+pub best_first : (p : ℕ × Seat → Bool) (xs : Seated) (i at : ℕ) (d : ℕ × Seat) → 0 < i → i ≤ length xs → p (get_or xs (i - 1) d) ≡ true → slice_get xs at ≡ best_of (filter p (drop i xs)) → at ≡ length xs
+    → slice_get xs (i - 1) ≡ best_of (filter p (drop (i - 1) xs))
+best_first p xs i at d a b is ih e =
+    slice_get-get_or xs (i - 1) d (omega arith) ∙ best_taken p xs i d (get_or xs (i - 1) d) None a b is (sym (slice_get_past xs at (omega arith)) ∙ ih) refl
+
+-- The better of two that are there is the one or the other.
+better_first : (e f : ℕ × Seat) → is_before e.1 f.1 ≡ true → e ≡ better e (Some f)
+better_first e f is = sym (ap (λ b. if b then e else f) is)
+
+better_second : (e f : ℕ × Seat) → is_before e.1 f.1 ≡ false → f ≡ better e (Some f)
+better_second e f is = sym (ap (λ b. if b then e else f) is)
+
+pub best_before : (p : ℕ × Seat → Bool) (xs : Seated) (i at : ℕ) (d : ℕ × Seat) → 0 < i → i ≤ length xs → p (get_or xs (i - 1) d) ≡ true → slice_get xs at ≡ best_of (filter p (drop i xs)) → at < length xs
+    → is_before (get_or xs (i - 1) d).1 (get_or xs at d).1 ≡ true → slice_get xs (i - 1) ≡ best_of (filter p (drop (i - 1) xs))
+best_before p xs i at d a b is ih h e =
+    slice_get-get_or xs (i - 1) d (omega arith)
+    ∙ best_taken p xs i d (get_or xs (i - 1) d) (Some (get_or xs at d)) a b is (sym (slice_get-get_or xs at d h) ∙ ih) (better_first (get_or xs (i - 1) d) (get_or xs at d) e)
+
+pub best_stays : (p : ℕ × Seat → Bool) (xs : Seated) (i at : ℕ) (d : ℕ × Seat) → 0 < i → i ≤ length xs → p (get_or xs (i - 1) d) ≡ true → slice_get xs at ≡ best_of (filter p (drop i xs)) → at < length xs
+    → is_before (get_or xs (i - 1) d).1 (get_or xs at d).1 ≡ false → slice_get xs at ≡ best_of (filter p (drop (i - 1) xs))
+best_stays p xs i at d a b is ih h e =
+    slice_get-get_or xs at d h
+    ∙ best_taken p xs i d (get_or xs at d) (Some (get_or xs at d)) a b is (sym (slice_get-get_or xs at d h) ∙ ih) (better_second (get_or xs (i - 1) d) (get_or xs at d) e)
 
 pub first_taken : (p : ℕ × Seat → Bool) (xs : Seated) (i : ℕ) (d : ℕ × Seat) → i < length xs → p (get_or xs i d) ≡ true → Some (get_or xs i d) ≡ first (filter p (drop i xs))
 first_taken p xs i d h is = sym (ap (λ l. first (filter p l)) (drop_more xs i d h) ∙ ap (λ c. first (cond c (get_or xs i d ∷ filter p (drop (i + 1) xs)) (filter p (drop (i + 1) xs)))) is)

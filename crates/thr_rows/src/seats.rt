@@ -40,20 +40,26 @@ pub fn better(entry: Entry, found: Option<Entry>) -> Entry
     }
 }
 
-/// The best of those that stand in the row.
+/// The best of those that stand in the row. The search keeps the place of the best so far, and copies its seat once.
 pub fn best_in(seats: &[Entry], row: RowId) -> Option<Entry>
     ensures best { result ≡ best_of (filter (λ e. place_in row e.1.place) seats.now) }
     ensures known { IsCanonical seats.now → IfSome result (λ e. has seats.now e.0 ≡ true) }
 {
-    let mut found: Option<Entry> = None;
+    let mut best = seats.len();
     let mut i = seats.len();
     while i > 0 {
         i -= 1;
         if is_in(row, seats[i].1.place) {
-            found = Some(better(seats[i], found));
+            if best == seats.len() || is_before(seats[i].1, seats[best].1) {
+                best = i;
+            }
         }
     }
-    found
+    if best < seats.len() {
+        Some(seats[best])
+    } else {
+        None
+    }
 }
 
 /// The first of those that run on the processor.

@@ -147,6 +147,7 @@ impl Frames {
         ensures some { IfSome result (λ frame. self.old.items ≡ frame ∷ self.new.items) }
         ensures calls { IfSome result (λ frame. self.new.calls ≡ below self.old.calls frame.kind) }
         ensures size { self.new.size ≡ self.old.size }
+        ensures most { self.new.most ≡ self.old.most }
         ensures room { IfSome result (λ _. length self.new.items < self.new.size) }
     {
         let Some(frame) = self.frames.pop() else {
