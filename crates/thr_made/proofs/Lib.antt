@@ -1,0 +1,10 @@
+pub mod Clean
+pub mod Formed
+pub mod Forms
+pub mod Lines
+pub mod Main
+pub mod Own
+pub mod Tables
+pub mod Whole
+pub mod Words
+pub mod Workers
