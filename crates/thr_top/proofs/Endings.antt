@@ -1,8 +1,8 @@
 -- How runs end.
-use Rattle.std.proofs.Common.{◌≡◌, ◌<◌, ◌≤◌, ◌^◌, ℕ, List, [], ◌∷◌, length, refl, sym, ap, ◌∙◌, subst, arith, append-nil, inl, inr}
+use Rattle.std.proofs.Common.{◌≡◌, ◌<◌, ◌≤◌, ◌^◌, ℕ, List, [], ◌∷◌, ◌++◌, length, refl, sym, ap, ◌∙◌, subst, arith, append-nil, inl, inr}
 use Rattle.std.proofs.lemmas.Fmt.{decimal_injective}
 use Rattle.std.specs.Prelude.{◌≢◌, Option, Some, None, IfSome, codes, ◌⊎◌}
-use Rattle.std.specs.Fmt.{decimal}
+use Rattle.std.specs.Fmt.{decimal, signed_decimal}
 use Rattle.std.specs.Io.KnownBytes.{Appends}
 use Rattle.thr_values.specs.declared.event.Stop.{Stop}
 use Rattle.thr_values.specs.declared.event.Stop.TheVariants as stops
@@ -10,10 +10,14 @@ use Rattle.thr_values.specs.declared.history.Entry.{Entry}
 use Rattle.thr_syntax.specs.declared.tree.Script.{Script}
 use Rattle.thr_wire.specs.Bytes.{TookMoreThan, TookAll}
 use Rattle.thr_text.specs.Reading.{Formed}
-use Rattle.thr_model.specs.Histories.{Legal}
+use Rattle.thr_model.specs.Histories.{Execution, History, Legal}
+use Rattle.thr_machine.specs.Views.{BookView}
+use Rattle.thr_workers.specs.Runs.{HasTurns, IsOver, HasCause}
 use Rattle.thr_alone.specs.Only.{IsOnlyHistory}
 use Rattle.thr_lawful.specs.Laws.{MeetsLaws}
-use Rattle.thr_top.specs.Answers.{IsRun, IsRunStatus, Refuses, RunAnswers, CheckAnswers, Ends, answered, unread, no_memory, not_run, not_checked, whole, max_script}
+use Rattle.thr_model.specs.States.{State, shared_values}
+use Rattle.thr_verdict.specs.Made.{made, numbers_from, total, caught}
+use Rattle.thr_top.specs.Answers.{IsRun, IsRunStatus, Refuses, RunAnswers, CheckAnswers, IsMake, IsTrial, TrialAnswers, tried, status_of, Ends, Gives, answered, unread, no_memory, not_run, not_checked, whole, max_script, one_line, shared_text, trial_workers}
 
 gains-nothing : (o : Option (List ℕ)) → Appends o o []
 gains-nothing None = tt
@@ -30,6 +34,9 @@ no-memory-run n input = not_run (no_memory refl refl)
 
 pub no-memory-check : (input : List ℕ) → CheckAnswers input 5 []
 no-memory-check input = not_checked (no_memory refl refl)
+
+pub gives-no-memory : (Answers : ℕ → List ℕ → Type 0) (old : Option (List ℕ)) → Answers 5 [] → Gives Answers old old 5
+gives-no-memory Answers old none = record { wanted = 5; written = []; answers = none; writes = whole refl (gains-nothing old) }
 
 -- An input that is refused for itself, by either command.
 pub run-refused : (n : ℕ) (input : List ℕ) (old new : Option (List ℕ)) (status : ℕ) → Ends (Refuses input) old new status → Ends (RunAnswers n input) old new status
@@ -101,3 +108,64 @@ one-number words n m h g = decimal_injective n m (fits n h.few) (fits m g.few) (
 -- What holds for the number that was read holds for each that the words ask for.
 pub for-its-number : (words : List (List ℕ)) (n : ℕ) (P : ℕ → Type 0) → IsRun words n → P n → (m : ℕ) → IsRun words m → P m
 for-its-number words n P h p m g = subst P (one-number words n m h g) p
+
+-- ---- which script is to be made
+
+third : List (List ℕ) → List ℕ
+third [] = []
+third (a ∷ []) = []
+third (a ∷ b ∷ []) = []
+third (a ∷ b ∷ c ∷ ds) = c
+
+-- The words ask to make one script.
+pub same-number : (words : List (List ℕ)) (n t m u : ℕ) → IsMake words n t → IsMake words m u → n ≡ m
+unfolding second
+same-number words n t m u h g = decimal_injective n m (omega (arith, h.fits)) (omega (arith, g.fits)) (ap second (sym h.so ∙ g.so))
+
+pub same-workers : (words : List (List ℕ)) (n t m u : ℕ) → IsMake words n t → IsMake words m u → t ≡ u
+unfolding third
+same-workers words n t m u h g = decimal_injective t u (omega (arith, h.few)) (omega (arith, g.few)) (ap third (sym h.so ∙ g.so))
+
+-- What holds for the numbers that were read holds for all that the words ask for.
+pub for-its-script : (words : List (List ℕ)) (n t : ℕ) (P : ℕ → ℕ → Type 0) → IsMake words n t → P n t → (m u : ℕ) → IsMake words m u → P m u
+for-its-script words n t P h p m u g = subst (λ (k : ℕ). P k u) (same-number words n t m u h g) (subst (P n) (same-workers words n t m u h g) p)
+
+pub same-trial : (words : List (List ℕ)) (n t m u : ℕ) → IsTrial words n t → IsTrial words m u → n ≡ m
+unfolding second
+same-trial words n t m u h g = decimal_injective n m (omega (arith, h.fits)) (omega (arith, g.fits)) (ap second (sym h.so ∙ g.so))
+
+pub same-runners : (words : List (List ℕ)) (n t m u : ℕ) → IsTrial words n t → IsTrial words m u → t ≡ u
+unfolding third
+same-runners words n t m u h g = decimal_injective t u (omega (arith, h.few)) (omega (arith, g.few)) (ap third (sym h.so ∙ g.so))
+
+-- The same of a trial.
+pub for-its-trial : (words : List (List ℕ)) (n t : ℕ) (P : ℕ → ℕ → Type 0) → IsTrial words n t → P n t → (m u : ℕ) → IsTrial words m u → P m u
+for-its-trial words n t P h p m u g = subst (λ (k : ℕ). P k u) (same-trial words n t m u h g) (subst (P n) (same-runners words n t m u h g) p)
+
+-- ---- the variables of a made script
+
+-- The shared variables of a made script are its sum and what it counts.
+pub two_variables : (number : ℕ) (st : State)
+    → shared_text (made number trial_workers) st
+    ≡ one_line (codes "total" ++ 32 ∷ signed_decimal (shared_values st total)) ++ (one_line (codes "caught" ++ 32 ∷ signed_decimal (shared_values st caught)) ++ [])
+unfolding numbers_from
+two_variables number st = refl
+
+pub variables_told : (number : ℕ) (st : State) (text : List ℕ) → text ≡ ([] ++ one_line (codes "total" ++ 32 ∷ signed_decimal (shared_values st total))) ++ one_line (codes "caught" ++ 32 ∷ signed_decimal (shared_values st caught))
+    → text ≡ shared_text (made number trial_workers) st
+variables_told number st text e =
+    let a : List ℕ = one_line (codes "total" ++ 32 ∷ signed_decimal (shared_values st total)) in
+    let b : List ℕ = one_line (codes "caught" ++ 32 ∷ signed_decimal (shared_values st caught)) in
+    e ∙ ap (λ (x : List ℕ). a ++ x) (sym (append-nil b)) ∙ sym (two_variables number st)
+
+-- ---- what a trial answers
+
+pub tried_by : (number workers : ℕ) (b : BookView) (count : ℕ) (why : Stop) (status : ℕ) (text : List ℕ) → HasTurns b count → IsOver b (made number trial_workers) workers → HasCause b → b.stopped ≡ Some why
+    → Legal b.script b.workers b.entries why → status ≡ status_of why → text ≡ shared_text (made number trial_workers) b.state → TrialAnswers number workers status text
+tried_by number workers b count why status text turns over cause stopped legal told written =
+    let x : Execution = record { state = b.state; events = turns.events; entries = b.entries; turns = count } in
+    let history : History (made number trial_workers) workers x =
+    subst (λ (s : Script). History s workers x) over.script (subst (λ (n : ℕ). History b.script n x) over.workers turns.history) in
+    let ends : Legal (made number trial_workers) workers b.entries why =
+    subst (λ (s : Script). Legal s workers b.entries why) over.script (subst (λ (n : ℕ). Legal b.script n b.entries why) over.workers legal) in
+    tried x history why ends (cause why stopped) told written

@@ -1,18 +1,24 @@
 -- What the program answers, and what it writes (docs/theorems.md, "The top call").
-use Rattle.std.specs.Prelude.{◌≡◌, ◌≢◌, ◌⊎◌, ℕ, ◌≤◌, ◌<◌, List, [], ◌∷◌, ◌++◌, length, take, codes, Option, Some}
-use Rattle.std.specs.Fmt.{decimal}
+use Rattle.std.specs.Prelude.{◌≡◌, ◌≢◌, ◌⊎◌, ℕ, ◌≤◌, ◌<◌, ◌^◌, map, List, [], ◌∷◌, ◌++◌, length, take, codes, Option, Some}
+use Rattle.std.specs.Fmt.{decimal, signed_decimal}
 use Rattle.std.specs.Io.KnownBytes.{Appends}
 use Rattle.thr_values.specs.declared.history.Entry.{Entry}
 use Rattle.thr_values.specs.declared.event.Stop.{Stop}
 use Rattle.thr_values.specs.declared.event.Stop.TheVariants as stops
 use Rattle.thr_syntax.specs.declared.tree.Script.{Script}
+use Rattle.thr_syntax.specs.declared.tree.Item.{Item}
+use Rattle.thr_syntax.specs.declared.tree.Item.TheVariants as item
 use Rattle.thr_syntax.specs.Canon.{canon}
+use Rattle.thr_syntax.specs.Lines.{joined}
+use Rattle.thr_syntax.specs.Spelling.{name_at}
 use Rattle.thr_text.specs.Faults.{first_of}
 use Rattle.thr_text.specs.Journals.{text}
 use Rattle.thr_text.specs.Reading.{Reads, faults}
-use Rattle.thr_model.specs.Histories.{Legal}
+use Rattle.thr_model.specs.Histories.{Execution, History, Legal}
+use Rattle.thr_model.specs.States.{State, shared_values}
 use Rattle.thr_alone.specs.Only.{IsOnlyHistory}
 use Rattle.thr_lawful.specs.Laws.{MeetsLaws}
+use Rattle.thr_verdict.specs.Made.{made}
 
 -- ---- the words of the commands that are built
 
@@ -29,9 +35,43 @@ AsksRun words = (workers : ℕ) × IsRun words workers
 abbrev pub IsCheck : List (List ℕ) → Type 0
 IsCheck words = words ≡ codes "check" ∷ []
 
+-- The words ask to make the script of a number of 32 bits, for so many workers, from 1 to 64.
+pub record IsMake (words : List (List ℕ)) (number workers : ℕ) : Type 0 where
+  pub fits : number < 2 ^ 32
+  pub some : 1 ≤ workers
+  pub few : workers ≤ 64
+  pub so : words ≡ codes "make" ∷ decimal number ∷ decimal workers ∷ []
+
+-- The words ask to make a script.
+abbrev pub AsksMake : List (List ℕ) → Type 0
+AsksMake words = (number : ℕ) × (workers : ℕ) × IsMake words number workers
+
+-- The words ask for a trial of a number of 32 bits, on so many workers, from 1 to 16.
+pub record IsTrial (words : List (List ℕ)) (number workers : ℕ) : Type 0 where
+  pub fits : number < 2 ^ 32
+  pub some : 1 ≤ workers
+  pub few : workers ≤ 16
+  pub so : words ≡ codes "trial" ∷ decimal number ∷ decimal workers ∷ []
+
+-- The words ask for a trial.
+abbrev pub AsksTrial : List (List ℕ) → Type 0
+AsksTrial words = (number : ℕ) × (workers : ℕ) × IsTrial words number workers
+
+-- The words have a form that runs a script by workers.
+abbrev pub NeedsWorkers : List (List ℕ) → Type 0
+NeedsWorkers words = AsksRun words ⊎ AsksTrial words
+
+-- The words have a form that is built and needs no workers.
+abbrev pub IsPlain : List (List ℕ) → Type 0
+IsPlain words = IsCheck words ⊎ AsksMake words
+
+-- The words have a form that is built and reads a script.
+abbrev pub ReadsScript : List (List ℕ) → Type 0
+ReadsScript words = AsksRun words ⊎ IsCheck words
+
 -- The words have a form that is built.
 abbrev pub IsCommand : List (List ℕ) → Type 0
-IsCommand words = AsksRun words ⊎ IsCheck words
+IsCommand words = NeedsWorkers words ⊎ IsPlain words
 
 -- ---- texts and statuses
 
@@ -85,6 +125,31 @@ pub data CheckAnswers (input : List ℕ) (status : ℕ) (written : List ℕ) : T
   checked : (s : Script) → length input ≤ max_script → Reads input s → status ≡ 0 → written ≡ canon s → CheckAnswers input status written
   not_checked : Refuses input status written → CheckAnswers input status written
 
+-- This status and this text answer `make` of this number for so many workers.
+pub data MakeAnswers (number workers : ℕ) (status : ℕ) (written : List ℕ) : Type 0 where
+  wrote : status ≡ 0 → written ≡ canon (made number workers) → MakeAnswers number workers status written
+  not_made : status ≡ 5 → written ≡ [] → MakeAnswers number workers status written
+
+-- A shared variable's line: its name and its value in this state.
+abbrev pub shared_line : Script → State → Item → List ℕ
+shared_line s st (item.Shared name n) = one_line (name_at s.names name.0 ++ 32 ∷ signed_decimal (shared_values st name))
+shared_line s st _ = []
+
+-- The shared variables of a script in their order, as they are in this state.
+abbrev pub shared_text : Script → State → List ℕ
+shared_text s st = joined (map (shared_line s st) s.items)
+
+-- For how many workers the script of a trial is made.
+abbrev pub trial_workers : ℕ
+trial_workers = 8
+
+-- This status and this text answer `trial` of this number on so many workers.
+pub data TrialAnswers (number workers : ℕ) (status : ℕ) (written : List ℕ) : Type 0 where
+  -- The shared variables of the last state of a legal history of the made script, with the status of its stop.
+  tried : (x : Execution) → History (made number trial_workers) workers x → (stop : Stop) → Legal (made number trial_workers) workers x.entries stop
+      → stop ≢ stops.Memory → status ≡ status_of stop → written ≡ shared_text (made number trial_workers) x.state → TrialAnswers number workers status written
+  not_tried : status ≡ 5 → written ≡ [] → TrialAnswers number workers status written
+
 -- The text was written and this is its status, or the write failed with a part of the text written, which is status 4.
 pub data Writes (old new : Option (List ℕ)) (status wanted : ℕ) (written : List ℕ) : Type 0 where
   whole : status ≡ wanted → Appends old new written → Writes old new status wanted written
@@ -94,6 +159,13 @@ pub data Writes (old new : Option (List ℕ)) (status wanted : ℕ) (written : L
 pub data Ends (Answers : ℕ → List ℕ → Type 0) (old new : Option (List ℕ)) (status : ℕ) : Type 0 where
   unread : status ≡ 3 → Appends old new [] → Ends Answers old new status
   answered : (wanted : ℕ) (written : List ℕ) → Answers wanted written → Writes old new status wanted written → Ends Answers old new status
+
+-- How a command ends that reads nothing, whose answers are these.
+pub record Gives (Answers : ℕ → List ℕ → Type 0) (old new : Option (List ℕ)) (status : ℕ) : Type 0 where
+  pub wanted : ℕ
+  pub written : List ℕ
+  pub answers : Answers wanted written
+  pub writes : Writes old new status wanted written
 
 -- The input is the text of a script.
 abbrev pub IsScript : List ℕ → Type 0

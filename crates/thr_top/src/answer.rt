@@ -3,11 +3,12 @@
 ghost use Rattle.std.specs.Prelude.{◌≡◌, ◌≢◌, ◌++◌, IfOk, codes, string_bytes};
 ghost use Rattle.std.specs.Fmt.{decimal};
 ghost use Rattle.thr_wire.specs.Causes.{Rose};
-ghost use Rattle.thr_top.specs.Answers.{Writes, refusal};
+ghost use Rattle.thr_top.specs.Answers.{IsRunStatus, Writes, refusal, status_of};
 
 use crate::command::Status;
 use std::alloc::{AllocError, Global};
 use thr_text::fault::Place;
+use thr_values::event::Stop;
 use thr_wire::whole::write_all;
 use thr_wire::wire::Sink;
 
@@ -31,4 +32,17 @@ pub fn refusal(alloc: Global, place: Place) -> Result<String, AllocError>
     let mut text = format!(in alloc; "refused F{number} line {line}")?;
     text.push_str("\n")?;
     Ok(text)
+}
+
+/// The status that goes with a stop.
+pub fn status_of(stop: Stop) -> u8
+    ensures status { result ≡ status_of stop }
+    ensures known { IsRunStatus result }
+{
+    match stop {
+        Stop::Finished => 0,
+        Stop::Deadlock(_, _) => 6,
+        Stop::Limit => 7,
+        Stop::Memory => 5,
+    }
 }

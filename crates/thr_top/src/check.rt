@@ -5,10 +5,11 @@ ghost use Rattle.thr_wire.specs.Bytes.{TookAtMost, TookMoreThan};
 ghost use Rattle.thr_wire.specs.Causes.{Rose};
 ghost use Rattle.thr_text.specs.Faults.{first_of};
 ghost use Rattle.thr_text.specs.Reading.{Reads, faults};
-ghost use Rattle.thr_top.specs.Answers.{AsksRun, IsCheck, IsScript, Refuses, CheckAnswers, Ends, Writes, max_script, usage};
+ghost use Rattle.thr_top.specs.Answers.{NeedsWorkers, AsksMake, IsCheck, IsMake, IsPlain, IsScript, MakeAnswers, Refuses, CheckAnswers, Ends, Gives, Writes, max_script, usage};
 
 use crate::answer::{give, refusal};
-use crate::command::{Status, Word, asks_check};
+use crate::command::{Status, Word, asks_check, made_of};
+use crate::make::make;
 use std::alloc::Global;
 use thr_grammar::{parse, print};
 use thr_syntax::tree::Script;
@@ -71,10 +72,10 @@ pub fn plain_top<S: Source, K: Sink>(
     source: &mut S,
     sink: &mut K,
 ) -> Status
-    requires { ¬ (AsksRun words.now) }
-    // Words of no form get the usage line, and nothing is read.
-    ensures usage { ¬ (IsCheck words.now) → Writes (K.held sink.old) (K.held sink.new) result.0 1 usage }
-    ensures only_usage { result.0 ≡ 1 → ¬ (IsCheck words.now) }
+    requires { ¬ (NeedsWorkers words.now) }
+    // Words of no form get the usage line, and where no script is asked for nothing is read.
+    ensures usage { ¬ (IsPlain words.now) → Writes (K.held sink.old) (K.held sink.new) result.0 1 usage }
+    ensures only_usage { result.0 ≡ 1 → ¬ (IsPlain words.now) }
     ensures unread { ¬ (IsCheck words.now) → source.new ≡ source.old }
 
     // `check` takes all that the source has left, or more than the limit of it and nothing behind the byte that shows so.
@@ -88,6 +89,10 @@ pub fn plain_top<S: Source, K: Sink>(
         IsScript input → ¬ (Rose (S.faults source.old) (S.faults source.new)) → ¬ (Rose (K.faults sink.old) (K.faults sink.new))
         → (result.0 ≡ 0) ⊎ (result.0 ≡ 5)) }
 
+    // `make` writes the canonical text of the script that is made, or nothing for want of memory.
+    ensures make { (number : ℕ) → (workers : ℕ) → IsMake words.now number workers → Gives (MakeAnswers number workers) (K.held sink.old) (K.held sink.new) result.0 }
+    ensures make_complete { AsksMake words.now → ¬ (Rose (K.faults sink.old) (K.faults sink.new)) → (result.0 ≡ 0) ⊎ (result.0 ≡ 5) }
+
     // Faults of the devices are their own.
     ensures read { result.0 ≡ 3 → Rose (S.faults source.old) (S.faults source.new) }
     ensures write { result.0 ≡ 4 → Rose (K.faults sink.old) (K.faults sink.new) }
@@ -95,6 +100,9 @@ pub fn plain_top<S: Source, K: Sink>(
     ensures quiet_sink { result.0 ≢ 4 → K.faults sink.new ≡ K.faults sink.old }
     ensures known { result.0 ≤ 5 }
 {
+    if let Some((number, workers)) = made_of(words) {
+        return make(alloc, number, workers, sink);
+    }
     if !asks_check(words) {
         return give(sink, 1, USAGE);
     }

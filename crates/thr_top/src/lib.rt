@@ -4,5 +4,7 @@
 mod answer;
 pub mod check;
 pub mod command;
+mod make;
 mod run;
 pub mod top;
+mod trial;

@@ -4,12 +4,13 @@ ghost use Rattle.std.specs.Prelude.{◌≡◌, ◌≢◌, ◌≤◌, ◌+◌, �
 ghost use Rattle.thr_wire.specs.Bytes.{TookAtMost, TookMoreThan};
 ghost use Rattle.thr_wire.specs.Causes.{Rose};
 ghost use Rattle.thr_text.specs.Reading.{Formed, Reads};
-ghost use Rattle.thr_top.specs.Answers.{status_of, IsRun, AsksRun, IsCheck, IsCommand, IsScript, IsRunStatus, RunAnswers, CheckAnswers, Ends, Writes, max_script, usage};
+ghost use Rattle.thr_top.specs.Answers.{status_of, IsRun, AsksRun, IsMake, AsksMake, IsTrial, AsksTrial, NeedsWorkers, IsCheck, IsCommand, ReadsScript, IsScript, IsRunStatus, RunAnswers, CheckAnswers, MakeAnswers, TrialAnswers, Ends, Gives, Writes, max_script, usage};
 
-use crate::answer::give;
+use crate::answer::{give, status_of};
 use crate::check::{MAX_SCRIPT, plain_top, refuse};
-use crate::command::{Status, Word, workers_of};
+use crate::command::{Status, Word, tried_of, workers_of};
 use crate::run::history_of;
+use crate::trial::trial;
 use std::alloc::Global;
 use std::sync::Wait;
 use std::thread::Threads;
@@ -17,24 +18,10 @@ use thr_grammar::parse;
 use thr_journal::print;
 use thr_syntax::tree::Script;
 use thr_text::fault::ParseFault;
-use thr_values::event::Stop;
 use thr_wire::fault::WireFault;
 use thr_wire::whole::read_all;
 use thr_wire::wire::{Sink, Source};
 use thr_workers::gate::Gate;
-
-/// The status that goes with a stop.
-fn status_of(stop: Stop) -> u8
-    ensures status { result ≡ status_of stop }
-    ensures known { IsRunStatus result }
-{
-    match stop {
-        Stop::Finished => 0,
-        Stop::Deadlock(_, _) => 6,
-        Stop::Limit => 7,
-        Stop::Memory => 5,
-    }
-}
 
 /// Runs a script on so many workers and writes its journal.
 fn run_script<K: Sink, R: Threads + Wait + Sync, G: Gate + Sync>(
@@ -129,14 +116,14 @@ pub fn top<S: Source, K: Sink, R: Threads + Wait + Sync, G: Gate + Sync>(
     sink: &mut K,
     gate: &G,
 ) -> Status
-    // Words of no form get the usage line, and nothing is read.
+    // Words of no form get the usage line, and where no script is asked for nothing is read.
     ensures usage { ¬ (IsCommand words.now) → Writes (K.held sink.old) (K.held sink.new) result.0 1 usage }
     ensures only_usage { result.0 ≡ 1 → ¬ (IsCommand words.now) }
-    ensures unread { ¬ (IsCommand words.now) → source.new ≡ source.old }
+    ensures unread { ¬ (ReadsScript words.now) → source.new ≡ source.old }
 
-    // A command takes all that the source has left, or more than the limit of it and nothing behind the byte that shows so.
-    ensures at_most { IsCommand words.now → TookAtMost (max_script + 1) (S.left source.old) (S.left source.new) }
-    ensures taken { IsCommand words.now → result.0 ≢ 3 → result.0 ≢ 5 → IfSome (S.left source.old) (λ input. (S.left source.new ≡ Some []) ⊎ TookMoreThan max_script input (S.left source.new)) }
+    // `run` and `check` take all that the source has left, or more than the limit of it and nothing behind the byte that shows so.
+    ensures at_most { ReadsScript words.now → TookAtMost (max_script + 1) (S.left source.old) (S.left source.new) }
+    ensures taken { ReadsScript words.now → result.0 ≢ 3 → result.0 ≢ 5 → IfSome (S.left source.old) (λ input. (S.left source.new ≡ Some []) ⊎ TookMoreThan max_script input (S.left source.new)) }
 
     // `run` writes the journal of a legal history of the script by so many workers, or what stands in its place. With one worker
     // that is the only legal history of the script, but for those that want of memory cuts short.
@@ -145,7 +132,14 @@ pub fn top<S: Source, K: Sink, R: Threads + Wait + Sync, G: Gate + Sync>(
     // `check` writes the canonical text of the script, or what stands in its place.
     ensures check { IsCheck words.now → IfSome (S.left source.old) (λ input. Ends (CheckAnswers input) (K.held sink.old) (K.held sink.new) result.0) }
 
-    // Where no device has a fault, the text of a script gives 0, or 5 for want of memory. To `run` it gives 6 where nothing can
+    // `make` writes the canonical text of the script that is made, or nothing for want of memory.
+    ensures make { (number : ℕ) → (workers : ℕ) → IsMake words.now number workers → Gives (MakeAnswers number workers) (K.held sink.old) (K.held sink.new) result.0 }
+
+    // `trial` writes the shared variables of the last state of a legal history of the script that is made, or nothing for want of
+    // memory.
+    ensures trial { (number : ℕ) → (workers : ℕ) → IsTrial words.now number workers → Gives (TrialAnswers number workers) (K.held sink.old) (K.held sink.new) result.0 }
+
+    // Where no device has a fault, `make` and the text of a script give 0, or 5 for want of memory. To `run` it gives 6 where nothing can
     // go on, and 7 where the lines come to the limit.
     ensures run_complete { AsksRun words.now → IfSome (S.left source.old) (λ input.
         IsScript input → ¬ (Rose (S.faults source.old) (S.faults source.new)) → ¬ (Rose (K.faults sink.old) (K.faults sink.new))
@@ -153,6 +147,8 @@ pub fn top<S: Source, K: Sink, R: Threads + Wait + Sync, G: Gate + Sync>(
     ensures check_complete { IsCheck words.now → IfSome (S.left source.old) (λ input.
         IsScript input → ¬ (Rose (S.faults source.old) (S.faults source.new)) → ¬ (Rose (K.faults sink.old) (K.faults sink.new))
         → (result.0 ≡ 0) ⊎ (result.0 ≡ 5)) }
+    ensures trial_complete { AsksTrial words.now → ¬ (Rose (K.faults sink.old) (K.faults sink.new)) → IsRunStatus result.0 }
+    ensures make_complete { AsksMake words.now → ¬ (Rose (K.faults sink.old) (K.faults sink.new)) → (result.0 ≡ 0) ⊎ (result.0 ≡ 5) }
 
     // Faults of the devices are their own.
     ensures read { result.0 ≡ 3 → Rose (S.faults source.old) (S.faults source.new) }
@@ -160,10 +156,13 @@ pub fn top<S: Source, K: Sink, R: Threads + Wait + Sync, G: Gate + Sync>(
     ensures quiet_source { result.0 ≢ 3 → S.faults source.new ≡ S.faults source.old }
     ensures quiet_sink { result.0 ≢ 4 → K.faults sink.new ≡ K.faults sink.old }
     ensures known { result.0 ≤ 7 }
-    ensures only_run { (result.0 ≡ 6) ⊎ (result.0 ≡ 7) → AsksRun words.now }
+    ensures only_run { (result.0 ≡ 6) ⊎ (result.0 ≡ 7) → NeedsWorkers words.now }
 {
     match workers_of(words) {
         Some(workers) => run_on(rt, alloc, workers, source, sink, gate),
-        None => plain_top(alloc, words, source, sink),
+        None => match tried_of(words) {
+            Some((number, workers)) => trial(rt, alloc, number, workers, sink, gate),
+            None => plain_top(alloc, words, source, sink),
+        },
     }
 }

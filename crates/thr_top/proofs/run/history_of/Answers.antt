@@ -1,4 +1,4 @@
-use Rattle.std.proofs.Common.{◌≡◌, ℕ, ◌∙◌, subst}
+use Rattle.std.proofs.Common.{ℕ, ◌∙◌, subst}
 use Rattle.thr_syntax.specs.declared.tree.Script.{Script}
 use Rattle.thr_model.specs.Histories.{Legal}
 use Rattle.thr_top.proofs.Endings.{laws-of, only-of}

@@ -1,6 +1,0 @@
-use Rattle.std.proofs.Common.{◌≢◌, ◌≤◌, ℕ, ◌<◌}
-use Rattle.std.specs.Fmt.{decimal}
-use Rattle.thr_top.proofs.command.number_of.Given as goal
-
-abbrev pub invariant-loop-n : goal.invariant-loop-n
-invariant-loop-n l = (k : ℕ) → 1 ≤ k → k < l.n → l.word ≢ decimal k
