@@ -45,7 +45,7 @@ one_of [] place h = omega arith
 one_of (w ∷ words) zero h = leb-true (length w) 21 (and_parts _ _ h).0
 one_of (w ∷ words) (suc place) h = one_of words place (and_parts _ _ h).1
 
-fixed_short : (c : CallWord) (place : ℕ) → length (unwrap_or (slice_get (fixed_words c) place) []) ≤ 21
+pub fixed_short : (c : CallWord) (place : ℕ) → length (unwrap_or (slice_get (fixed_words c) place) []) ≤ 21
 fixed_short c place = one_of (fixed_words c) place (fixed_all c)
 
 -- ---- arguments

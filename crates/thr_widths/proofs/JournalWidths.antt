@@ -225,22 +225,31 @@ first_width = refl
 history_width : length (line (codes "history" ∷ [])) ≡ 8
 history_width = refl
 
-pub journal_width : (j : Journal) → FormedJournal j → length j.entries ≤ 1001160 → list_all has_its_reply j.entries ≡ true
-    → length (text j.script j.workers j.entries j.stop) ≤ 134217728
+-- The text of a journal whose lines take so many bytes.
+pub text_width : (s : Script) (n : ℕ) (es : List Entry) (stop : Stop) → Formed s → n ≤ 16 → is_formed_stop stop ≡ true → length (numbered s.names 1 es) ≤ 129149640
+    → length (text s n es stop) ≤ 134217728
 unfolding text
-journal_width j h few r =
-    let s = j.script in
-    let short : length (canon s) ≤ 4820000 = canon_short s h.script in
+text_width s n es stop formed few_workers ends wide =
+    let short : length (canon s) ≤ 4820000 = canon_short s formed in
     let counted : length (script_words s) ≤ length (canon s) = few_lines (script_words s) in
     omega (
       arith,
-      seven (line (codes "dcethr" ∷ codes "journal" ∷ codes "1" ∷ [])) (line (codes "workers" ∷ decimal j.workers ∷ []))
-          (line (codes "script" ∷ decimal (length (script_words s)) ∷ [])) (canon s) (line (codes "history" ∷ [])) (numbered s.names 1 j.entries) (line (stop_words j.stop)),
+      seven (line (codes "dcethr" ∷ codes "journal" ∷ codes "1" ∷ [])) (line (codes "workers" ∷ decimal n ∷ []))
+          (line (codes "script" ∷ decimal (length (script_words s)) ∷ [])) (canon s) (line (codes "history" ∷ [])) (numbered s.names 1 es) (line (stop_words stop)),
       first_width,
-      workers_width j.workers h.few_workers,
+      workers_width n few_workers,
       script_width (length (script_words s)) (omega arith),
       short,
       history_width,
-      lines_width s 1 j.entries h.script (omega arith) h.lines r,
-      stop_width j.stop h.stop,
+      wide,
+      stop_width stop ends,
     )
+
+few_bytes : (n k : ℕ) → k ≤ 129 * n → n ≤ 1001160 → k ≤ 129149640
+few_bytes n k h few = omega (arith, h, few)
+
+pub journal_width : (j : Journal) → FormedJournal j → length j.entries ≤ 1001160 → list_all has_its_reply j.entries ≡ true
+    → length (text j.script j.workers j.entries j.stop) ≤ 134217728
+journal_width j h few r =
+    text_width j.script j.workers j.entries j.stop h.script h.few_workers h.stop
+    (few_bytes (length j.entries) (length (numbered j.script.names 1 j.entries)) (lines_width j.script 1 j.entries h.script (omega (arith, few)) h.lines r) few)

@@ -25,7 +25,7 @@ pub fn lines_are_short()
         → length (numbered_line s.names n e) ≤ 129 }
 {}
 
-/// The text of a journal that has its form, of the 1,001,160 lines at most that a history has, is at most 134,217,728 bytes, where
+/// The text of a journal that has its form, of at most 1,001,160 lines, is at most 134,217,728 bytes, where
 /// a call replies a number only if it has a variable for it.
 pub fn journals_are_short()
     ensures { (j : Journal) → FormedJournal j → length j.entries ≤ 1001160 → IsTrue (list_all has_its_reply j.entries)

@@ -1,0 +1,10 @@
+pub mod Values
+pub mod Literals
+pub mod Fitting
+pub mod Steps
+pub mod Quiet
+pub mod Parts
+pub mod Calls
+pub mod Turns
+pub mod Histories
+pub mod Lengths

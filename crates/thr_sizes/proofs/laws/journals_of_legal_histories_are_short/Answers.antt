@@ -1,0 +1,5 @@
+use Rattle.thr_sizes.proofs.Lengths.{legal_text}
+use Rattle.thr_sizes.proofs.laws.journals_of_legal_histories_are_short.Goals as goal
+
+pub returns : goal.returns
+returns c = legal_text
