@@ -4,4 +4,4 @@
 mod printing;
 mod words;
 
-pub use printing::print;
+pub use printing::{add_entry, add_stop, print};

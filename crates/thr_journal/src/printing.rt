@@ -42,9 +42,9 @@ fn add_script(alloc: Global, out: &mut Vec<u8>, script: &Script) -> Result<(), A
     }
 }
 
-/// Adds a line of the history with its number.
+/// Adds a line of the history with its number, and its end.
 #[tactic(auto, using(thr_grammar::proofs::SpacedLaws::line_laws))]
-fn add_entry(
+pub fn add_entry(
     out: &mut Vec<u8>,
     names: &[Name],
     number: u64,
@@ -85,8 +85,8 @@ fn add_deadlock(out: &mut Vec<u8>, count: u32, least: Tid) -> Result<(), AllocEr
     Ok(())
 }
 
-/// Adds the stop line.
-fn add_stop(out: &mut Vec<u8>, stop: Stop) -> Result<(), AllocError>
+/// Adds the stop line, with its end.
+pub fn add_stop(out: &mut Vec<u8>, stop: Stop) -> Result<(), AllocError>
     ensures { OnOk result (out.new.items ≡ out.old.items ++ line (stop_words stop)) }
 {
     match stop {
