@@ -1,3 +1,4 @@
 //! By crate.
 
+mod made;
 mod top;

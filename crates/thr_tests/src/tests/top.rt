@@ -11,7 +11,8 @@ use thr_wire::standard::{StdSink, StdSource};
 use thr_wire::whole::{read_all, write_all};
 use thr_workers::gate::NoGate;
 
-const USAGE: &[u8] = b"usage: dcethr run W | check | verify | report | make N T | trial N W\n";
+pub(super) const USAGE: &[u8] =
+    b"usage: dcethr run W | check | verify | report | make N T | trial N W\n";
 
 const SEVEN: &[u8] = b"dcethr 1\nroutine main a\nsay 7\nend\n";
 
@@ -318,7 +319,7 @@ const CASES: [(&str, &[u8], u8, &[u8]); 59] = [
     ("verify", SEVEN, 1, USAGE),
 ];
 
-fn words_of(alloc: Global, line: &str) -> Result<Vec<Word>, Fail> {
+pub(super) fn words_of(alloc: Global, line: &str) -> Result<Vec<Word>, Fail> {
     let mut words = Vec::new(alloc);
     for word in line.split_ascii_whitespace() {
         words.push(Word::new(String::from_str(alloc, word)?))?;
