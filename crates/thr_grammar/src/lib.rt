@@ -7,5 +7,5 @@ mod printing;
 mod tests;
 
 pub use parsing::parse;
-pub use printing::print;
+pub use printing::{print, print_with_room};
 pub use thr_text::fault::{ParseFault, Place};

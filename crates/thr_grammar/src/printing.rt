@@ -22,13 +22,20 @@ use thr_values::number::NoMemory;
 pub fn print(alloc: Global, s: &Script) -> Result<Vec<u8>, NoMemory>
     ensures { IfOk result (λ text. text.items ≡ canon s.now) }
 {
-    text_of(alloc, s).map_err(|_| NoMemory)
+    print_with_room(alloc, s, 0)
 }
 
-fn text_of(alloc: Global, s: &Script) -> Result<Vec<u8>, AllocError>
+/// The same, with memory for so many bytes from the start: for whoever knows about how long the text is.
+pub fn print_with_room(alloc: Global, s: &Script, room: usize) -> Result<Vec<u8>, NoMemory>
     ensures { IfOk result (λ text. text.items ≡ canon s.now) }
 {
-    let mut out = Vec::new(alloc);
+    text_of(alloc, s, room).map_err(|_| NoMemory)
+}
+
+fn text_of(alloc: Global, s: &Script, room: usize) -> Result<Vec<u8>, AllocError>
+    ensures { IfOk result (λ text. text.items ≡ canon s.now) }
+{
+    let mut out = Vec::with_capacity(alloc, room)?;
     out.extend_from_slice(b"dcethr 1\n")?;
     add_items(&mut out, s.names.as_slice(), s.items.as_slice())?;
     Ok(out)

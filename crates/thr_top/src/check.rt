@@ -11,7 +11,7 @@ use crate::answer::{give, refusal};
 use crate::command::{Status, Word, asks_check, made_of};
 use crate::make::make;
 use std::alloc::Global;
-use thr_grammar::{parse, print};
+use thr_grammar::{parse, print_with_room};
 use thr_syntax::tree::Script;
 use thr_text::fault::{ParseFault, Place};
 use thr_wire::fault::WireFault;
@@ -36,14 +36,14 @@ pub(crate) fn refuse<K: Sink>(alloc: Global, place: Place, sink: &mut K) -> Stat
     }
 }
 
-/// Writes the canonical text of a script.
-fn check_script<K: Sink>(alloc: Global, script: &Script, sink: &mut K) -> Status
+/// Writes the canonical text of a script, which is about so long.
+fn check_script<K: Sink>(alloc: Global, script: &Script, length: usize, sink: &mut K) -> Status
     ensures ends { (input : List ℕ) → length input ≤ max_script → Reads input script.now → Ends (CheckAnswers input) (K.held sink.old) (K.held sink.new) result.0 }
     ensures status { (result.0 ≡ 0) ⊎ ((result.0 ≡ 5) ⊎ (result.0 ≡ 4)) }
     ensures write { result.0 ≡ 4 → Rose (K.faults sink.old) (K.faults sink.new) }
     ensures quiet { result.0 ≢ 4 → K.faults sink.new ≡ K.faults sink.old }
 {
-    match print(alloc, script) {
+    match print_with_room(alloc, script, length) {
         Ok(text) => give(sink, 0, text.as_slice()),
         Err(_) => Status(5),
     }
@@ -59,7 +59,7 @@ fn check_input<K: Sink>(alloc: Global, input: &[u8], sink: &mut K) -> Status
     ensures known { (result.0 ≤ 5) × (result.0 ≢ 1) × (result.0 ≢ 3) }
 {
     match parse(alloc, input) {
-        Ok(script) => check_script(alloc, &script, sink),
+        Ok(script) => check_script(alloc, &script, input.len(), sink),
         Err(ParseFault::Refused(place)) => refuse(alloc, place, sink),
         Err(ParseFault::NoMemory) => Status(5),
     }
