@@ -36,14 +36,14 @@ pub(crate) fn refuse<K: Sink>(alloc: Global, place: Place, sink: &mut K) -> Stat
     }
 }
 
-/// Writes the canonical text of a script, which is about so long.
-fn check_script<K: Sink>(alloc: Global, script: &Script, length: usize, sink: &mut K) -> Status
+/// Writes the canonical text of a script, which is of about this size.
+fn check_script<K: Sink>(alloc: Global, script: &Script, size: usize, sink: &mut K) -> Status
     ensures ends { (input : List ℕ) → length input ≤ max_script → Reads input script.now → Ends (CheckAnswers input) (K.held sink.old) (K.held sink.new) result.0 }
     ensures status { (result.0 ≡ 0) ⊎ ((result.0 ≡ 5) ⊎ (result.0 ≡ 4)) }
     ensures write { result.0 ≡ 4 → Rose (K.faults sink.old) (K.faults sink.new) }
     ensures quiet { result.0 ≢ 4 → K.faults sink.new ≡ K.faults sink.old }
 {
-    match print_with_room(alloc, script, length) {
+    match print_with_room(alloc, script, size) {
         Ok(text) => give(sink, 0, text.as_slice()),
         Err(_) => Status(5),
     }

@@ -106,7 +106,7 @@ fn run_on<S: Source, K: Sink, R: Threads + Wait + Sync, G: Gate + Sync>(
 }
 
 /// Does what the words say: reads the source, writes the sink and answers the status that the program ends with
-/// (docs/theorems.md, "The top call"). `run` goes by worker threads, one for each processor, which pass the gate without a lock. It is
+/// (docs/theorems.md, "The top call"). `run` and `trial` go by worker threads, one for each processor, which pass the gate without a lock. It is
 /// called by `main`. It may never return, since workers wait for one another, and so may the gate.
 pub fn top<S: Source, K: Sink, R: Threads + Wait + Sync, G: Gate + Sync>(
     rt: &R,
@@ -125,8 +125,10 @@ pub fn top<S: Source, K: Sink, R: Threads + Wait + Sync, G: Gate + Sync>(
     ensures at_most { ReadsScript words.now → TookAtMost (max_script + 1) (S.left source.old) (S.left source.new) }
     ensures taken { ReadsScript words.now → result.0 ≢ 3 → result.0 ≢ 5 → IfSome (S.left source.old) (λ input. (S.left source.new ≡ Some []) ⊎ TookMoreThan max_script input (S.left source.new)) }
 
-    // `run` writes the journal of a legal history of the script by so many workers, or what stands in its place. With one worker
-    // that is the only legal history of the script, but for those that want of memory cuts short.
+    // `run` writes the journal of a legal history of the script by so many workers, or what stands in its place. In that history each
+    // unwinding takes its route through the open handlers until it is caught or replaced, no mutex has two owners, cancels are
+    // delivered when they must and may be, and each call that waits is answered once. With one worker it is the only legal
+    // history of the script, but for those that want of memory cuts short.
     ensures run { (n : ℕ) → IsRun words.now n → IfSome (S.left source.old) (λ input. Ends (RunAnswers n input) (K.held sink.old) (K.held sink.new) result.0) }
 
     // `check` writes the canonical text of the script, or what stands in its place.
@@ -139,8 +141,8 @@ pub fn top<S: Source, K: Sink, R: Threads + Wait + Sync, G: Gate + Sync>(
     // memory.
     ensures trial { (number : ℕ) → (workers : ℕ) → IsTrial words.now number workers → Gives (TrialAnswers number workers) (K.held sink.old) (K.held sink.new) result.0 }
 
-    // Where no device has a fault, `make` and the text of a script give 0, or 5 for want of memory. To `run` it gives 6 where nothing can
-    // go on, and 7 where the lines come to the limit.
+    // Where no device has a fault, the text of a script gives 0, or 5 for want of memory, and so does `make`. To `run`, and of a
+    // trial, 6 comes where nothing can go on, and 7 where the lines come to the limit.
     ensures run_complete { AsksRun words.now → IfSome (S.left source.old) (λ input.
         IsScript input → ¬ (Rose (S.faults source.old) (S.faults source.new)) → ¬ (Rose (K.faults sink.old) (K.faults sink.new))
         → IsRunStatus result.0) }
