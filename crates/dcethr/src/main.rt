@@ -9,21 +9,14 @@ use thr_top::top::top;
 use thr_wire::standard::{StdSink, StdSource};
 use thr_workers::gate::NoGate;
 
-/// Answers the command that the program is given (README.md, "Statuses"). Where the system gives no words, that is want of memory.
-fn run(rt: &HostRuntime) -> Status {
-    let alloc = rt.alloc();
-    let Ok(args) = env::args(rt) else {
-        return Status(5);
-    };
-    let mut words = Vec::new(alloc);
+/// The words that the program is given, without its own name. Where the system gives none, that is want of memory.
+fn words_of(rt: &HostRuntime) -> Option<Vec<Word>> {
+    let args = env::args(rt).ok()?;
+    let mut words = Vec::new(rt.alloc());
     for arg in args.skip(1) {
-        if words.push(Word::new(arg)).is_err() {
-            return Status(5);
-        }
+        words.push(Word::new(arg)).ok()?;
     }
-    let mut source = StdSource::new(rt.stdin());
-    let mut sink = StdSink::new(rt.stdout());
-    top(rt, alloc, words.as_slice(), &mut source, &mut sink, &NoGate)
+    Some(words)
 }
 
 /// What standard error is told of a status that leaves standard output without an end.
@@ -37,7 +30,21 @@ fn complaint(status: Status) -> Option<&'static str> {
 }
 
 fn main(rt: HostRuntime) -> ExitCode {
-    let status = run(&rt);
+    let status = match words_of(&rt) {
+        None => Status(5),
+        Some(words) => {
+            let mut source = StdSource::new(rt.stdin());
+            let mut sink = StdSink::new(rt.stdout());
+            top(
+                &rt,
+                rt.alloc(),
+                words.as_slice(),
+                &mut source,
+                &mut sink,
+                &NoGate,
+            )
+        }
+    };
     if let Some(words) = complaint(status) {
         // Where this fails as well, the status alone tells.
         let _ = eprintln!(rt; "dcethr: {words}");

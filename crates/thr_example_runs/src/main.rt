@@ -34,15 +34,16 @@ fn run_words(alloc: Global) -> io::Result<Vec<Word>> {
     Ok(words)
 }
 
-/// Runs a script, and says with which status it ended and whether its journal came.
-fn try_script(rt: &HostRuntime, words: &[Word], name: &str) -> io::Result<()> {
-    let alloc = rt.alloc();
-    let script = fs::read(rt, format!(in alloc; "{name}{SCRIPT}")?)?;
-    let journal = fs::read(rt, format!(in alloc; "{name}{JOURNAL}")?)?;
-    let mut source = GoodSource::new(script);
-    let mut sink = GoodSink::new(alloc);
-    let Status(status) = top(rt, alloc, words, &mut source, &mut sink, &NoGate);
-    if sink.as_slice() == journal.as_slice() {
+/// A script and the journal beside it.
+fn example_of(rt: &HostRuntime, name: &str) -> io::Result<(Vec<u8>, Vec<u8>)> {
+    let script = fs::read(rt, format!(in rt.alloc(); "{name}{SCRIPT}")?)?;
+    let journal = fs::read(rt, format!(in rt.alloc(); "{name}{JOURNAL}")?)?;
+    Ok((script, journal))
+}
+
+/// Says with which status a script ended, and whether its journal came.
+fn tell(rt: &HostRuntime, name: &str, status: u8, same: bool) -> io::Result<()> {
+    if same {
         println!(rt; "{name} {status}")
     } else {
         println!(rt; "{name} {status}: its journal is another")
@@ -50,11 +51,24 @@ fn try_script(rt: &HostRuntime, words: &[Word], name: &str) -> io::Result<()> {
 }
 
 fn main(rt: HostRuntime) -> io::Result<()> {
-    let words = run_words(rt.alloc())?;
+    let alloc = rt.alloc();
+    let words = run_words(alloc)?;
     let scripts = names_of(&rt, SCRIPT)?;
     let journals = names_of(&rt, JOURNAL)?;
     for name in scripts.iter() {
-        try_script(&rt, words.as_slice(), name.as_str())?;
+        let (script, journal) = example_of(&rt, name.as_str())?;
+        let mut source = GoodSource::new(script);
+        let mut sink = GoodSink::new(alloc);
+        let Status(status) = top(
+            &rt,
+            alloc,
+            words.as_slice(),
+            &mut source,
+            &mut sink,
+            &NoGate,
+        );
+        let same = sink.as_slice() == journal.as_slice();
+        tell(&rt, name.as_str(), status, same)?;
     }
     println!(rt; "{} scripts, {} journals", scripts.len(), journals.len())
 }

@@ -1,7 +1,10 @@
 //! Tests of `make` and `trial`: the worked scripts and sums, and the bounds of their numbers.
 
 use super::top::{USAGE, words_of};
+use std::alloc::Global;
+use std::sync::Wait;
 use std::test::Fail;
+use std::thread::Threads;
 use thr_top::command::Status;
 use thr_top::top::top;
 use thr_wire::good::{GoodSink, GoodSource};
@@ -28,8 +31,11 @@ const CASES: [(&str, u8, &[u8]); 13] = [
 ];
 
 /// What the words give on an input that they leave alone.
-fn answer_of(rt: &HostRuntime, text: &str) -> Result<(u8, Vec<u8>), Fail> {
-    let alloc = rt.alloc();
+fn answer_of<R: Threads + Wait + Sync>(
+    rt: &R,
+    alloc: Global,
+    text: &str,
+) -> Result<(u8, Vec<u8>), Fail> {
     let words = words_of(alloc, text)?;
     let mut source = GoodSource::new(Vec::from_slice(alloc, b"unread")?);
     let mut sink = GoodSink::new(alloc);
@@ -40,7 +46,7 @@ fn answer_of(rt: &HostRuntime, text: &str) -> Result<(u8, Vec<u8>), Fail> {
 #[test]
 fn made_scripts_and_their_bounds(rt: HostRuntime) -> Result<(), Fail> {
     for (words, status, text) in CASES {
-        let (got, written) = answer_of(&rt, words)?;
+        let (got, written) = answer_of(&rt, rt.alloc(), words)?;
         assert_eq!(rt; got, status, "{words}");
         assert_eq!(rt; written.as_slice(), text, "{words}");
     }
@@ -50,7 +56,7 @@ fn made_scripts_and_their_bounds(rt: HostRuntime) -> Result<(), Fail> {
 /// The greatest numbers are taken: the made script has 64 workers.
 #[test]
 fn the_largest_script_is_made(rt: HostRuntime) -> Result<(), Fail> {
-    let (status, written) = answer_of(&rt, "make 4294967295 64")?;
+    let (status, written) = answer_of(&rt, rt.alloc(), "make 4294967295 64")?;
     assert_eq!(rt; status, 0);
     assert!(rt; written.as_slice().starts_with(b"dcethr 1\nlimit 1000000\n"));
     Ok(())
@@ -60,7 +66,7 @@ fn the_largest_script_is_made(rt: HostRuntime) -> Result<(), Fail> {
 #[test]
 fn trials_have_their_sums(rt: HostRuntime) -> Result<(), Fail> {
     for words in ["trial 1 1", "trial 1 4"] {
-        let (status, written) = answer_of(&rt, words)?;
+        let (status, written) = answer_of(&rt, rt.alloc(), words)?;
         assert_eq!(rt; status, 0, "{words}");
         assert_eq!(rt;
             written.as_slice(),
