@@ -2,5 +2,8 @@ pub mod Numbers
 pub mod Fields
 pub mod Lines
 pub mod Faults
+pub mod Texts
+pub mod Refusals
+pub mod Reading
 pub mod Computing
 pub mod Samples

@@ -66,6 +66,12 @@ HaveNoForm texts = map (λ t. below names (codes t)) texts ≡ map (λ t. None) 
 
 -- ---- journals
 
+abbrev pub dispatch : Tid → Entry
+dispatch t = record { who = who.Proc 0; what = what.Run t }
+
+abbrev pub said_by_one : What → Entry
+said_by_one says = record { who = who.Thread (tid 1); what = says }
+
 -- The first line and number of a refusal of these lines with something behind them.
 abbrev pub refusal : List String → String → Option Fault
 refusal lines tail = first_of (faults (lines_text lines ++ codes tail))

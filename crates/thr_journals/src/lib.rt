@@ -1,6 +1,8 @@
-//! Journals as texts, as definitions: how their lines are read and what a text is refused for. Worked cases of them are
-//! functions that do nothing and whose contracts are the cases.
+//! Journals as texts: definitions of how their lines are read and what a text is refused for, and the words of lines.
+//! Worked cases of the definitions are functions that do nothing and whose contracts are the cases.
 #![tactic(auto)]
 
 pub mod examples;
+pub mod fault;
+pub mod texts;
 pub mod word;

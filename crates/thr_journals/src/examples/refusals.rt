@@ -1,7 +1,11 @@
 //! Journals that are read and texts that are refused.
 
-ghost use Rattle.std.specs.Prelude.{◌≡◌, ◌∷◌, [], ◌++◌, map, take, drop, codes, None, Some};
-ghost use Rattle.thr_journals.specs.Samples.{refusal, seven, seven_with};
+ghost use Rattle.std.specs.Prelude.{◌≡◌, ◌∷◌, [], ◌++◌, map, take, drop, codes, pos, None, Some};
+ghost use Rattle.thr_values.specs.declared.history.What.TheVariants as what;
+ghost use Rattle.thr_values.specs.declared.event.Stop.TheVariants as stops;
+ghost use Rattle.thr_journals.specs.Faults.{parts_of, workers_in, names_of};
+ghost use Rattle.thr_journals.specs.Reading.{line_at, script_in, history_in, history_lines};
+ghost use Rattle.thr_journals.specs.Samples.{dispatch, lines_text, refusal, seven, seven_with, said_by_one, tid};
 
 /// A journal, one without lines, and ones whose histories aren't legal.
 #[tactic(auto, unfolding(crate::specs::Computing::journal_words))]
@@ -10,6 +14,15 @@ pub fn journals_without_a_fault()
     ensures no_line { refusal (take 8 seven ++ "stop memory" ∷ []) "" ≡ None }
     ensures other_lines { refusal (seven_with 8 ("1 t0 end 4" ∷ "2 t9 clock" ∷ [])) "" ≡ Some (10, 4) }
     ensures not_legal { refusal (seven_with 9 ("2 t9 pause" ∷ [])) "" ≡ None }
+{}
+
+/// What a journal is read as.
+#[tactic(auto, unfolding(crate::specs::Computing::journal_words))]
+pub fn what_is_read()
+    ensures workers { workers_in (line_at (parts_of (lines_text seven)) 1) ≡ Some 1 }
+    ensures script { script_in (parts_of (lines_text seven)) ≡ lines_text ("dcethr 1" ∷ "routine main a" ∷ "say 7" ∷ "end" ∷ []) }
+    ensures history { history_in (names_of (script_in (parts_of (lines_text seven)))) (history_lines (parts_of (lines_text seven)))
+        ≡ Some (dispatch (tid 1) ∷ said_by_one (what.Say (pos 7)) ∷ said_by_one (what.End (pos 0)) ∷ [], stops.Finished) }
 {}
 
 /// J1 and J2: the first three lines, and how many lines the script has.
