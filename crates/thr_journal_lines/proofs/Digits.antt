@@ -1,6 +1,6 @@
 -- Digits, read from the left.
 use Rattle.std.proofs.Common.{◌≡◌, ℕ, ◌+◌, ◌*◌, ◌-◌, ◌<◌, ◌≤◌, ◌^◌, Bool, true, false, List, [], ◌∷◌, length, get_or, drop, fold, Option, Some, None, refl, sym, ap, subst, ◌∙◌, add-one, drop-cons, arith}
-use Rattle.std.specs.Prelude.{nat_le, if◌then◌else◌}
+use Rattle.std.specs.Prelude.{◌==◌, nat_le, if◌then◌else◌}
 use Rattle.std.proofs.lemmas.Bool.Decides.{nat_tests}
 use Rattle.std.proofs.lemmas.List.{drop_all}
 use Rattle.std.proofs.lemmas.Option.{cond_some}
@@ -53,3 +53,9 @@ breaks_off digits i total lt e so_far =
 
 pub ends : (digits : List ℕ) (i total : ℕ) → length digits ≤ i → fold and_digit total (drop i digits) ≡ fold and_digit 0 digits → total ≡ fold and_digit 0 digits
 ends digits i total le so_far = sym (ap (fold and_digit total) (drop_all i digits le)) ∙ so_far
+
+pub is_other : (n m : ℕ) → if_long n ≡ None → m < 2 ^ 64 → (n == m) ≡ false
+is_other n m e small = differs n m (is_large n e) small
+  where
+    differs : (n m : ℕ) → 2 ^ 64 ≤ n → m < 2 ^ 64 → (n == m) ≡ false
+    differs n m large small = grind (arith, nat_tests)

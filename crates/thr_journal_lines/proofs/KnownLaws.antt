@@ -1,10 +1,11 @@
 -- The place of a name among the names of a script, and its kind.
-use Rattle.std.proofs.Common.{◌≡◌, ℕ, suc, Bool, true, false, cond, List, [], ◌∷◌, length, Some, None, refl, ap, ◌∙◌, arith}
+use Rattle.std.proofs.Common.{◌≡◌, ℕ, suc, Bool, true, false, cond, List, [], ◌∷◌, map, length, Some, None, refl, ap, ◌∙◌, arith}
 use Rattle.std.specs.Prelude.{position, nat_lt}
 use Rattle.std.specs.List.{position_or_len, find}
 use Rattle.std.specs.Option.{option_map}
 use Rattle.std.specs.Map.{keys_of}
 use Rattle.std.specs.Str.{bytes_eq}
+use Rattle.std.proofs.lemmas.List.{length-map}
 use Rattle.thr_text.specs.Tables.{kind_in}
 use Rattle.thr_journal_lines.specs.declared.names.Known.{Known}
 use Rattle.thr_journal_lines.specs.Known.{entries_in}
@@ -37,3 +38,19 @@ pub kind_found : (text : List ℕ) (ks : List Known) → kind_in (entries_in ks)
 unfolding kind_in
 kind_found text [] = refl
 kind_found text (k ∷ ks) = kind_by text k ks (bytes_eq text k.name) refl (kind_found text ks)
+
+-- ---- fixed words
+
+word_by : {A : Type 0} (p : List ℕ → Bool) (f : A → List ℕ) (x : A) (xs : List A) (b : Bool) → p (f x) ≡ b → position_or_len p (map f xs) ≡ position_or_len (λ (y : A). p (f y)) xs
+    → position_or_len p (map f (x ∷ xs)) ≡ position_or_len (λ (y : A). p (f y)) (x ∷ xs)
+word_by p f x xs true e more = rw e refl
+word_by p f x xs false e more = rw e (omega (arith, more))
+
+word_or_end : {A : Type 0} (p : List ℕ → Bool) (f : A → List ℕ) (xs : List A) → position_or_len p (map f xs) ≡ position_or_len (λ (y : A). p (f y)) xs
+word_or_end p f [] = refl
+word_or_end p f (x ∷ xs) = word_by p f x xs (p (f x)) refl (word_or_end p f xs)
+
+pub position_map : {A : Type 0} (p : List ℕ → Bool) (f : A → List ℕ) (xs : List A) → position p (map f xs) ≡ position (λ (y : A). p (f y)) xs
+position_map p f xs =
+    ap (λ (m : ℕ). cond (nat_lt m (length (map f xs))) (Some m) None) (word_or_end p f xs)
+    ∙ ap (λ (n : ℕ). cond (nat_lt (position_or_len (λ (y : _). p (f y)) xs) n) (Some (position_or_len (λ (y : _). p (f y)) xs)) None) (length-map xs f)

@@ -1,3 +1,5 @@
+pub mod Arguments
 pub mod Known
 pub mod Numbers
+pub mod Seen
 pub mod Words

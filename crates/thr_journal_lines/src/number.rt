@@ -1,6 +1,6 @@
 //! Numbers in their shortest form.
 
-ghost use Rattle.std.specs.Prelude.{◌≡◌};
+ghost use Rattle.std.specs.Prelude.{◌≡◌, ◌==◌};
 ghost use Rattle.std.specs.List.{list_all};
 ghost use Rattle.std.specs.Char.{is_ascii_digit};
 ghost use Rattle.thr_text.specs.Lexing.{has_minus, and_digit};
@@ -49,6 +49,17 @@ fn number_of(digits: &[u8]) -> Option<u64>
         }
     }
     long_of(total)
+}
+
+/// Whether digits are this number.
+#[tactic(auto, using(crate::proofs::Digits::is_other))]
+pub fn has_number(digits: &[u8], number: u64) -> bool
+    ensures { result ≡ (number_of digits.now == number) }
+{
+    match number_of(digits) {
+        Some(n) => n == number,
+        None => false,
+    }
 }
 
 /// A number in its shortest form that isn't below one number nor above another.
