@@ -1,2 +1,9 @@
-pub mod PlaceLaws
 pub mod Shortest
+pub mod PlaceLaws
+pub mod NameLaws
+pub mod FormedPlaces
+pub mod SaidLaws
+pub mod CallLaws
+pub mod EntryLaws
+pub mod CleanLaws
+pub mod BelowLaws

@@ -32,7 +32,7 @@ word_read {A} read text Fits taken again = record { taken = word_taken; again = 
 
 -- ---- two places, and all of the words
 
-then_some : {A B : Type 0} (f : A → Option B) (o : Option A) (b : B) → option_and_then f o ≡ Some b → (a : A) × (o ≡ Some a) × (f a ≡ Some b)
+pub then_some : {A B : Type 0} (f : A → Option B) (o : Option A) (b : B) → option_and_then f o ≡ Some b → (a : A) × (o ≡ Some a) × (f a ≡ Some b)
 then_some f None b e = absurd cc
 then_some f (Some a) b e = (a, refl, e)
 
@@ -77,10 +77,10 @@ count_read = word_read long_in decimal IsLong
 pub value_read : IsReadAsPrinted value (λ z. signed_decimal z ∷ []) HasSixtyFourBits
 value_read = word_read value_in signed_decimal HasSixtyFourBits value_taken value_again
 
-short_taken : (w : List ℕ) (n : ℕ) → short_in w ≡ Some n → (w ≡ decimal n) × (n < 2 ^ 32)
+pub short_taken : (w : List ℕ) (n : ℕ) → short_in w ≡ Some n → (w ≡ decimal n) × (n < 2 ^ 32)
 short_taken w n e = let t = number_taken 0 4294967295 n w (omega arith) e in let high = t.1.high in (t.0, omega (arith, high))
 
-short_again : (n : ℕ) → n < 2 ^ 32 → short_in (decimal n) ≡ Some n
+pub short_again : (n : ℕ) → n < 2 ^ 32 → short_in (decimal n) ≡ Some n
 short_again n fits = number_again 0 4294967295 n (omega arith) (record { low = omega arith; high = omega (arith, fits) })
 
 line_taken : (w : List ℕ) (l : Line) → line_in w ≡ Some l → (w ≡ decimal l.0) × IsPlace l

@@ -16,10 +16,10 @@ pub and_both : (a b : Bool) → (a && b) ≡ true → (a ≡ true) × (b ≡ tru
 and_both true b e = (refl, e)
 and_both false b e = absurd cc
 
-abbrev AreDigits : List ℕ → Type 0
+abbrev pub AreDigits : List ℕ → Type 0
 AreDigits ds = list_all is_ascii_digit ds ≡ true
 
-own : IsNumeralModel AreDigits (fold and_digit 0)
+pub own : IsNumeralModel AreDigits (fold and_digit 0)
 own = numerals_by_fold _ (search rules) (fold and_digit) (search rules)
 
 -- ---- the shortest form
