@@ -1,0 +1,14 @@
+pub mod CutLaws
+pub mod TitleLaws
+pub mod PartLaws
+pub mod HistoryLaws
+pub mod NamesLaws
+pub mod CanonicalLaws
+pub mod LineNumbers
+pub mod OneJournal
+pub mod HistoryTexts
+pub mod TitleTexts
+pub mod ScriptTexts
+pub mod JournalTexts
+pub mod TextsRead
+pub mod WholeLaws
