@@ -1,0 +1,7 @@
+//! By crate.
+
+mod blocks;
+mod forms;
+mod names;
+mod table;
+mod words;
