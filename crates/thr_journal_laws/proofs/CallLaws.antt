@@ -242,9 +242,11 @@ is_zero n e = grind (arith, nat_tests)
 or_again : (s : Script) → Formed s → (c : CallWord) (kind : kinds.Object) → fixed_words c ≡ absent_word kind ∷ [] → (a : Arg) → suits s (ObjectOr kind) a ≡ true → IsRead s c (ObjectOr kind) a
 or_again s h c kind fixed (arg.Name id) e =
     (name_word s.names id, refl, rw (other_word (name_word s.names id) (absent_word kind) (name_form s h kind id e) (absent_is_reserved kind), name_again s h kind id e) refl)
-or_again s h c kind fixed (arg.Word place) e =
-    (absent_word kind, alone_word _ _ (ap (λ (n : ℕ). unwrap_or (slice_get (fixed_words c) n) []) (is_zero place e) ∙ ap (λ (ws : List (List ℕ)). unwrap_or (slice_get ws 0) []) fixed),
-    rw ((bytes_eq-Decides (absent_word kind) (absent_word kind)).1 refl) (ap (λ (n : ℕ). Some (arg.Word n)) (sym (is_zero place e))))
+or_again s h c kind fixed (arg.Word place) e = (
+  absent_word kind,
+  alone_word _ _ (ap (λ (n : ℕ). unwrap_or (slice_get (fixed_words c) n) []) (is_zero place e) ∙ ap (λ (ws : List (List ℕ)). unwrap_or (slice_get ws 0) []) fixed),
+  rw ((bytes_eq-Decides (absent_word kind) (absent_word kind)).1 refl) (ap (λ (n : ℕ). Some (arg.Word n)) (sym (is_zero place e))),
+)
 or_again s h c kind fixed arg.Nothing e = absurd cc
 or_again s h c kind fixed (arg.Num n) e = absurd cc
 
@@ -329,9 +331,11 @@ arguments_taken s h c (p ∷ places) agrees (w ∷ ws) x e =
     let a = argument_taken s h c p agrees.0 w one.0 one.1 in
     let here : IsArgument s c p w first.0.0 = subst (IsArgument s c p w) is a in
     let more = arguments_taken s h c places agrees.1 ws rest.0 (ap (arguments (names_in s) places) (sym left) ∙ rest.1) in
-    subst (AreArguments s c (p ∷ places) (w ∷ ws)) rest.2
-    (ap (λ (vs : List (List ℕ)). w ∷ vs) more.0 ∙ ap (λ (vs : List (List ℕ)). vs ++ (args_words s.names c rest.0.0 ++ rest.0.1)) here.0
-    ∙ sym (append_assoc (arg_words s.names c first.0.0) (args_words s.names c rest.0.0) rest.0.1), (here.1, more.1))
+    subst (AreArguments s c (p ∷ places) (w ∷ ws)) rest.2 (
+      ap (λ (vs : List (List ℕ)). w ∷ vs) more.0 ∙ ap (λ (vs : List (List ℕ)). vs ++ (args_words s.names c rest.0.0 ++ rest.0.1)) here.0
+          ∙ sym (append_assoc (arg_words s.names c first.0.0) (args_words s.names c rest.0.0) rest.0.1),
+      (here.1, more.1),
+    )
 
 arguments_again : (s : Script) → Formed s → (c : CallWord) (places : List Slot) → AllAgree c places → (args : List Arg) (rest : List (List ℕ)) → Suit s places args
     → arguments (names_in s) places (args_words s.names c args ++ rest) ≡ Some (args, rest)
@@ -442,9 +446,11 @@ called_taken s h c ws w e =
     let make : List Arg × Reply → What = λ x. what.Call c (four x.0) x.1 in
     let m = map_some make (alone (both (arguments (names_in s) (call_places c)) equals_reply) ws) w e in
     let t = alone_taken (both (arguments (names_in s) (call_places c)) equals_reply) (CallPrint s c) (CallFits s c) (call_read s h c) ws m.0 m.1 in
-    subst (IsSaid s (call_word c ∷ ws)) m.2
-    (ap (λ (vs : List (List ℕ)). call_word c ∷ vs) (t.0 ∙ ap (λ (vs : List (List ℕ)). vs ++ codes "=" ∷ reply_word m.0.1 ∷ []) (sym (four_words s.names c m.0.0))),
-    all_both (have_their_form s c (four m.0.0)) (is_formed_reply m.0.1) (four_formed s c m.0.0 t.1.0) t.1.1, refl)
+    subst (IsSaid s (call_word c ∷ ws)) m.2 (
+      ap (λ (vs : List (List ℕ)). call_word c ∷ vs) (t.0 ∙ ap (λ (vs : List (List ℕ)). vs ++ codes "=" ∷ reply_word m.0.1 ∷ []) (sym (four_words s.names c m.0.0))),
+      all_both (have_their_form s c (four m.0.0)) (is_formed_reply m.0.1) (four_formed s c m.0.0 t.1.0) t.1.1,
+      refl,
+    )
 
 pub called_again : (s : Script) → Formed s → (c : CallWord) (args : List Arg) (r : Reply) → is_formed_what s (what.Call c args r) ≡ true
     → called (names_in s) c (args_words s.names c args ++ codes "=" ∷ reply_word r ∷ []) ≡ Some (what.Call c args r)

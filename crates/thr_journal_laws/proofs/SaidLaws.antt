@@ -186,7 +186,7 @@ destroy_kind : (s : Script) → Formed s
 unfolding is_formed_what
 destroy_kind s h = record {
   read = both_read count (both (name (names_in s) object.Key) value) count_print (λ y. name_print s y.0 ++ value_print y.1) IsCount (λ y. (is_name_of s object.Key y.0 ≡ true) × IsValue y.1) count_formed
-  (both_read (name (names_in s) object.Key) value (name_print s) value_print (λ id. is_name_of s object.Key id ≡ true) IsValue (name_read s h object.Key) value_formed);
+      (both_read (name (names_in s) object.Key) value (name_print s) value_print (λ id. is_name_of s object.Key id ≡ true) IsValue (name_read s h object.Key) value_formed);
   printed = λ x. refl;
   formed = λ x fits. all_both (fits_64 x.0) (is_name_of s object.Key x.1.0 && fits_signed x.1.1) fits.0 (all_both (is_name_of s object.Key x.1.0) (fits_signed x.1.1) fits.1.0 fits.1.1);
   fits = λ x e. let p = and_both (fits_64 x.0) (is_name_of s object.Key x.1.0 && fits_signed x.1.1) e in (p.0, and_both (is_name_of s object.Key x.1.0) (fits_signed x.1.1) p.1);

@@ -20,7 +20,7 @@ use thr_text::object::Object;
 use thr_values::call::CallWord;
 use thr_values::event::Stop;
 use thr_values::exception::Exc;
-use thr_values::history::{Entry, Who, What};
+use thr_values::history::{Entry, What, Who};
 use thr_values::number::{Line, NameId, Tid};
 use thr_values::reply::Reply;
 
@@ -110,7 +110,11 @@ fn two_counts_and_place(words: &mut Words) -> Option<(u64, (u64, Line))>
     let s = count(words)?;
     let n = count(words)?;
     let l = place(words)?;
-    if words.is_empty() { Some((s, (n, l))) } else { None }
+    if words.is_empty() {
+        Some((s, (n, l)))
+    } else {
+        None
+    }
 }
 
 fn count_and_once(words: &mut Words, known: &[Known]) -> Option<(u64, NameId)>
@@ -129,7 +133,11 @@ fn count_key_and_value(words: &mut Words, known: &[Known]) -> Option<(u64, (Name
     let s = count(words)?;
     let k = name(words, known, Object::Key)?;
     let v = value(words)?;
-    if words.is_empty() { Some((s, (k, v))) } else { None }
+    if words.is_empty() {
+        Some((s, (k, v)))
+    } else {
+        None
+    }
 }
 
 // ---- what a thread says
@@ -168,7 +176,11 @@ fn said_by(words: &mut Words, known: &[Known], word: LineWord) -> Option<What>
         LineWord::Enddes => count_alone(words).map(|s| What::Enddes(s)),
         LineWord::Lost => two_counts(words).map(|x| What::Lost(x.0, x.1)),
         LineWord::Bottom => count_and_value(words).map(|x| What::Bottom(x.0, x.1)),
-        LineWord::Pause => if words.is_empty() { Some(What::Pause) } else { None },
+        LineWord::Pause => if words.is_empty() {
+            Some(What::Pause)
+        } else {
+            None
+        },
         LineWord::End => value_alone(words).map(|v| What::End(v)),
     }
 }

@@ -24,11 +24,7 @@ fn number_behind(before: &[u8], least: u64, most: u64, line: &[u8]) -> Option<u6
     }
     let text = words.next()?;
     let number = number_in(least, most, text)?;
-    if words.is_empty() {
-        Some(number)
-    } else {
-        None
-    }
+    if words.is_empty() { Some(number) } else { None }
 }
 
 /// How many workers the second line of a journal names.

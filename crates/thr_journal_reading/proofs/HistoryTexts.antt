@@ -83,8 +83,8 @@ history_by s h at n l p more x (Some (Told text entry)) small rest e read none =
     let y = rest m.0 m.1 f.1 in
     subst (IsHistory s n (join_with_byte 10 (l ∷ p ∷ more))) m.2 (record {
       whole = ap (λ (u : List ℕ). l ++ 10 ∷ u) y.whole
-      ∙ ap (λ (u : List ℕ). u ++ 10 ∷ history_text s (n + 1) m.0) (t.0 ∙ ap (λ (u : List ℕ). join_with_byte 32 (u ∷ who_word entry.who ∷ what_words s.names entry.what)) number)
-      ∙ regroup (join_with_byte 32 (decimal n ∷ who_word entry.who ∷ what_words s.names entry.what)) (numbered s.names (n + 1) m.0.0) (line (stop_words m.0.1));
+          ∙ ap (λ (u : List ℕ). u ++ 10 ∷ history_text s (n + 1) m.0) (t.0 ∙ ap (λ (u : List ℕ). join_with_byte 32 (u ∷ who_word entry.who ∷ what_words s.names entry.what)) number)
+          ∙ regroup (join_with_byte 32 (decimal n ∷ who_word entry.who ∷ what_words s.names entry.what)) (numbered s.names (n + 1) m.0.0) (line (stop_words m.0.1));
       lines = both_true (is_formed_line s entry) (list_all (is_formed_line s) m.0.0) t.2 y.lines;
       stop = y.stop;
     })
@@ -131,8 +131,8 @@ more_again s h at n e x parts others next small is some rest =
     record {
       read = told_read (names_in s) l (decimal n) e parts below_is ∙ ap (option_map (with_entry e)) rest.read;
       faultless = ap (λ (ls : List (List ℕ)). history_faults (names_in s) at n (l ∷ ls)) some ∙ told (names_in s) at n l next others (decimal n) e below_is
-      ∙ ap (λ (b : Bool). fault_if (not b) at 5 ++ history_faults (names_in s) (at + 1) (n + 1) (next ∷ others)) (same_number (number_of (decimal n)) n (decimal_number n small))
-      ∙ ap (history_faults (names_in s) (at + 1) (n + 1)) (sym some) ∙ rest.faultless;
+          ∙ ap (λ (b : Bool). fault_if (not b) at 5 ++ history_faults (names_in s) (at + 1) (n + 1) (next ∷ others)) (same_number (number_of (decimal n)) n (decimal_number n small))
+          ∙ ap (history_faults (names_in s) (at + 1) (n + 1)) (sym some) ∙ rest.faultless;
     }
   where
     same_number : (a b : ℕ) → a ≡ b → (a == b) ≡ true

@@ -180,9 +180,9 @@ rest_by s rest k x true small there reads read none =
       marked = got.2;
       script = (bytes_eq-Decides t (canonical t)).0 (text_free t (first_of (scripts.faults t)) text_none) ∙ canonical_is t s reads;
       history = history_taken s reads.formed (k + 5) 1 (next.0 ∷ next.1) x
-      (let n : length (drop (k + 1) rest) ≡ length (next.0 ∷ next.1) = ap length next.2 in omega (arith, n, length-drop (k + 1) rest, small))
-      (ap (λ (ls : List (List ℕ)). history_in (names_in s) ls) (sym next.2) ∙ ap (λ (ns : Names). history_in ns (drop (k + 1) rest)) (sym names) ∙ read)
-      (ap (λ (ls : List (List ℕ)). history_faults (names_in s) (k + 5) 1 ls) (sym next.2) ∙ ap (λ (ns : Names). history_faults ns (k + 5) 1 (drop (k + 1) rest)) (sym names) ∙ lines_none);
+          (let n : length (drop (k + 1) rest) ≡ length (next.0 ∷ next.1) = ap length next.2 in omega (arith, n, length-drop (k + 1) rest, small))
+          (ap (λ (ls : List (List ℕ)). history_in (names_in s) ls) (sym next.2) ∙ ap (λ (ns : Names). history_in ns (drop (k + 1) rest)) (sym names) ∙ read)
+          (ap (λ (ls : List (List ℕ)). history_faults (names_in s) (k + 5) 1 ls) (sym next.2) ∙ ap (λ (ns : Names). history_faults ns (k + 5) 1 (drop (k + 1) rest)) (sym names) ∙ lines_none);
     }
   where
     stands : (k : ℕ) (more : List (List ℕ)) → has_script k more ≡ true → faults_by (Some k) more ≡ faults_below k more
@@ -202,8 +202,22 @@ third_by s l p q rest parts w x (Some k) whole small title workers count reads r
     let r = rest_by s rest k x (has_script k rest) small refl (subst (λ (t : List ℕ). Reads t s) own reads)
     (ap (λ (t : List ℕ). history_in (names_of t) (drop (k + 1) rest)) (sym own) ∙ ap (history_in (names_of (script_in parts))) (sym behind) ∙ read) none in
     record {
-      title = l; second = p; third = q; rest = rest; size = k; hist = r.hist; next = r.next; others = r.others; whole = whole; titled = title;
-      workers = ap (λ (ls : List (List ℕ)). workers_in (line_at ls 1)) (sym whole) ∙ workers; count = count; cut = r.cut; marked = r.marked; script = r.script; history = r.history;
+      title = l;
+      second = p;
+      third = q;
+      rest = rest;
+      size = k;
+      hist = r.hist;
+      next = r.next;
+      others = r.others;
+      whole = whole;
+      titled = title;
+      workers = ap (λ (ls : List (List ℕ)). workers_in (line_at ls 1)) (sym whole) ∙ workers;
+      count = count;
+      cut = r.cut;
+      marked = r.marked;
+      script = r.script;
+      history = r.history;
     }
   where
     four_is : (k : ℕ) → k + 4 ≡ suc (suc (suc (k + 1)))

@@ -86,8 +86,8 @@ script_there parts more behind rest l line next text k e count left some is same
       taken = ap (λ (ls : List (List ℕ)). script_text k (drop 1 ls)) e ∙ same;
       left = ap (drop (k + 2)) e ∙ ap (λ (n : ℕ). drop n (l ∷ more)) (two_is k) ∙ past_history;
       faults = told parts more l k e count ∙ stands_by k more stands
-      ∙ ap (λ (t : List ℕ). text_faults t (first_of (scripts.faults t)) ++ history_faults (names_of t) (k + 5) 1 (drop (k + 1) more)) same
-      ∙ ap (λ (ls : List (List ℕ)). text_faults text (first_of (scripts.faults text)) ++ history_faults (names_of text) (k + 5) 1 ls) past_history;
+          ∙ ap (λ (t : List ℕ). text_faults t (first_of (scripts.faults t)) ++ history_faults (names_of t) (k + 5) 1 (drop (k + 1) more)) same
+          ∙ ap (λ (ls : List (List ℕ)). text_faults text (first_of (scripts.faults text)) ++ history_faults (names_of text) (k + 5) 1 ls) past_history;
     }
   where
     two_is : (k : ℕ) → k + 2 ≡ suc (k + 1)

@@ -98,18 +98,21 @@ spelled_no_end names locals (f ∷ fs) own numbers forms scopes =
     let good : IsScope scope = subst (λ (k : List (List ℕ)). IsScope (scope_of names k)) same scopes.0 in
     let rest = spelled_lines names below fs in
     let ts = form_words scope f in
-    let text : join_with_byte 32 ts ≡ line_text (map word_of ts) = ap (join_with_byte 32) (sym (line_texts scope f good o numbers.0 forms.0)) in
-    (subst HasNoEnd (sym text) (plain_line (line_text (map word_of ts)) (faultless (line_text (map word_of ts)) forms.1).plain),
-    spelled_no_end names below fs p.1 numbers.1 forms.2 (subst (λ (k : List (List ℕ)). AreScopes names k (map (map word_of) rest)) same scopes.1))
+    let text : join_with_byte 32 ts ≡ line_text (map word_of ts) = ap (join_with_byte 32) (sym (line_texts scope f good o numbers.0 forms.0)) in (
+      subst HasNoEnd (sym text) (plain_line (line_text (map word_of ts)) (faultless (line_text (map word_of ts)) forms.1).plain),
+      spelled_no_end names below fs p.1 numbers.1 forms.2 (subst (λ (k : List (List ℕ)). AreScopes names k (map (map word_of) rest)) same scopes.1),
+    )
 
 header_no_end : HasNoEnd (join_with_byte 32 (codes "dcethr" ∷ codes "1" ∷ []))
 header_no_end = refl
 
 pub script_no_end : (s : Script) → Formed s → HaveNoEnd (map (join_with_byte 32) (script_words s))
 script_no_end s h =
-    let spelled = own_spelled s h in
-    (header_no_end, subst (λ (tss : List (List (List ℕ))). HaveNoEnd (map (join_with_byte 32) tss)) (formed_words s h)
-    (spelled_no_end s.names [] (tree_lines s) (items_own s.items) h.numbers.1 (subst HaveForms (sym spelled) h.forms) (subst (AreScopes s.names []) (sym spelled) (formed_scopes s h))))
+    let spelled = own_spelled s h in (
+      header_no_end,
+      subst (λ (tss : List (List (List ℕ))). HaveNoEnd (map (join_with_byte 32) tss)) (formed_words s h)
+          (spelled_no_end s.names [] (tree_lines s) (items_own s.items) h.numbers.1 (subst HaveForms (sym spelled) h.forms) (subst (AreScopes s.names []) (sym spelled) (formed_scopes s h))),
+    )
 
 ended_lines : (tss : List (List (List ℕ))) → joined (map line tss) ≡ flat_map with_end (map (join_with_byte 32) tss)
 ended_lines [] = refl

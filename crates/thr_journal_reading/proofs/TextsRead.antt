@@ -161,12 +161,12 @@ read_by s h w es st bytes k size small some range parts read =
     ap (λ (n : ℕ). drop (n + 4) (parts_of bytes)) script_size_is ∙ ap (drop (k + 4)) parts ∙ ap (λ (n : ℕ). drop n (parts_of_text s w k behind)) (four_is k) ∙ ap (λ (n : ℕ). drop (n + 1) more) lines ∙ drop_front own behind (codes "history") in
     record {
       faultless = ap (λ (ls : List (List ℕ)). title_faults ls ++ script_faults (drop 2 ls)) parts
-      ∙ ap (λ (fs : List Fault). fs ++ script_faults (join_with_byte 32 (script_line k) ∷ more)) (title_again w k s behind workers)
-      ∙ ap (λ (o : Option ℕ). faults_by o more) count ∙ script_again s h k behind part.1 part.0 (es, st) lines part.2 read;
+          ∙ ap (λ (fs : List Fault). fs ++ script_faults (join_with_byte 32 (script_line k) ∷ more)) (title_again w k s behind workers)
+          ∙ ap (λ (o : Option ℕ). faults_by o more) count ∙ script_again s h k behind part.1 part.0 (es, st) lines part.2 read;
       workers = ap (λ (ls : List (List ℕ)). workers_in (line_at ls 1)) parts ∙ workers;
       script = subst (λ (t : List ℕ). Reads t s) (sym script_is) (canon_again s h);
       history = ap (λ (t : List ℕ). history_in (names_of t) (history_lines (parts_of bytes))) script_is ∙ ap (λ (ns : Names). history_in ns (history_lines (parts_of bytes))) (names_read (canon s) s (canon_again s h))
-      ∙ ap (history_in (names_in s)) behind_is ∙ read.read;
+          ∙ ap (history_in (names_in s)) behind_is ∙ read.read;
     }
   where
     four_is : (k : ℕ) → k + 4 ≡ suc (suc (suc (k + 1)))

@@ -49,7 +49,11 @@ fn judge_end(rest: &[u8], at: u32) -> Result<(), JournalFault>
 {
     match next_line(rest) {
         Some(_) => Err(refused(at, 6)),
-        None => if rest.is_empty() { Ok(()) } else { Err(refused(at, 6)) },
+        None => if rest.is_empty() {
+            Ok(())
+        } else {
+            Err(refused(at, 6))
+        },
     }
 }
 

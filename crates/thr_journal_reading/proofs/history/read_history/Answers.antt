@@ -48,9 +48,9 @@ lines-preserved c =
     let told : IsLine names c.lines.number c.in-Some.line.now (judged.Told c.in-Told.entry) = subst (λ (j : Judged). IsLine names c.lines.number c.in-Some.line.now j) c.in-Told.is c.in_ok-entry.ensures.line in
     record {
       faults = goes_on names c.lines.at c.lines.number c.in-Some.line.now part.0 told.0 c.in-Told.entry (parts_of c.lines.rest.now) (parts_of c.in-Some.behind.now) part.1 _
-      c.in-Some.ensures.parts part.2 told.1 told.2 c.lines.invariant.faults;
+          c.in-Some.ensures.parts part.2 told.1 told.2 c.lines.invariant.faults;
       told = reads_on names c.in-Some.line.now told.0 c.in-Told.entry (parts_of c.lines.rest.now) (parts_of c.in-Some.behind.now) c.lines.entries c.push.new.self _
-      c.in-Some.ensures.parts told.1 c.in_ok-push-in-Told.ensures.ok c.lines.invariant.told;
+          c.in-Some.ensures.parts told.1 c.in_ok-push-in-Told.ensures.ok c.lines.invariant.told;
       room = omega (arith, c.in-Some.ensures.less, c.lines.invariant.room);
       count = omega (arith, c.lines.invariant.count);
     }

@@ -14,9 +14,9 @@ names-preserved c =
     record {
       place = omega (arith, l.invariant.place);
       told = pairs_on c.args.names.now c.args.kinds.now l.name-index c.name-item.result (entries_in l.known.items) (entries_in c.add_known.new.known.items) _ c.names-test.true c.name-item.is
-      (c.in_ok-add_known.ensures
-      ∙ ap (λ (k : Object). entries_in l.known.items ++ with_kind c.name-item.result k ∷ []) (c.kind_at.ensures ∙ ap (λ (p : ℕ). unwrap_or (slice_get c.args.kinds.now p) object.Exception) l.invariant.place))
-      l.invariant.told;
+          (c.in_ok-add_known.ensures
+          ∙ ap (λ (k : Object). entries_in l.known.items ++ with_kind c.name-item.result k ∷ []) (c.kind_at.ensures ∙ ap (λ (p : ℕ). unwrap_or (slice_get c.args.kinds.now p) object.Exception) l.invariant.place))
+          l.invariant.told;
     }
 
 pub returns : goal.returns
