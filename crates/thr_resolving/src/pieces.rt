@@ -1,6 +1,6 @@
 //! The words of a line read from the right: each operator takes the pieces after it.
 
-ghost use Rattle.std.specs.Prelude.{◌≡◌, pos, [], ◌∷◌, OnOk, IfOk, IfErr};
+ghost use Rattle.std.specs.Prelude.{◌≡◌, pos, [], ◌∷◌, OnOk, IfErr};
 ghost use Rattle.thr_text.specs.declared.fault.ParseFault.TheVariants as ParseFault;
 ghost use Rattle.thr_text.specs.declared.word.Word.TheVariants.{Num};
 ghost use Rattle.thr_text.specs.Faults.{first_of};
@@ -40,13 +40,20 @@ impl<'a> Model for Pieces<'a> {
 }
 
 impl<'a> Pieces<'a> {
-    /// No pieces, with room for so many.
-    pub fn with_capacity(alloc: Global, count: usize) -> Result<Pieces<'a>, ParseFault>
-        ensures ok { IfOk result (λ ps. ps ≡ []) }
-        ensures fault { IfErr result (λ f. f ≡ ParseFault.NoMemory) }
+    /// No pieces.
+    pub fn new(alloc: Global) -> Pieces<'a>
+        ensures { result ≡ [] }
     {
-        let stack = Vec::with_capacity(alloc, count)?;
-        Ok(Pieces { stack })
+        Pieces {
+            stack: Vec::new(alloc),
+        }
+    }
+
+    /// Takes all pieces out.
+    fn clear(&mut self)
+        ensures { self.new ≡ [] }
+    {
+        self.stack.clear();
     }
 
     /// Takes the leftmost piece, if there is one.
@@ -190,20 +197,21 @@ fn put_word<'a>(
     pieces.push(Piece::Raw(word))
 }
 
-/// The pieces that are left of these words.
-pub fn pieces_of<'a>(
+/// Puts the pieces that are left of these words in the place of those that are there.
+pub fn read_pieces<'a>(
     alloc: Global,
     names: &Names,
     words: &'a [Word],
-) -> Result<Pieces<'a>, ParseFault>
-    ensures ok { IfOk result (λ ps. ps ≡ Resolving.pieces_of (scope_seen names.now) words.now) }
+    pieces: &mut Pieces<'a>,
+) -> Result<(), ParseFault>
+    ensures ok { OnOk result (pieces.new ≡ Resolving.pieces_of (scope_seen names.now) words.now) }
     ensures fault { IfErr result (λ f. f ≡ ParseFault.NoMemory) }
 {
-    let mut pieces = Pieces::with_capacity(alloc, words.len())?;
+    pieces.clear();
     let mut left = words.len();
     while left > 0 {
         left -= 1;
-        put_word(alloc, names, &words[left], &mut pieces)?;
+        put_word(alloc, names, &words[left], pieces)?;
     }
-    Ok(pieces)
+    Ok(())
 }

@@ -7,9 +7,9 @@ ghost use Rattle.thr_text.specs.NameFaults.{words_in};
 ghost use Rattle.thr_resolving.specs.Resolving.{scope_of, resolved, resolved_lines};
 
 use crate::form::form_of;
-use crate::pieces::pieces_of;
+use crate::pieces::{Pieces, read_pieces};
 use crate::scope::Names;
-use crate::values::values_in;
+use crate::values::{Values, read_values};
 use sqlite_items::Items;
 use std::alloc::Global;
 use thr_lexer::line::Line;
@@ -21,20 +21,22 @@ use thr_values::name::Name;
 /// The line with its names resolved: each by its place among the names of the table, or among the parameter and the locals in
 /// force (docs/script.md, "Names").
 #[tactic(auto, unfolding(crate::specs::Resolving::resolved))]
-pub fn resolve(
+fn resolve<'a>(
     alloc: Global,
     table: &Table,
     locals: &[Name],
-    line: &Line,
+    line: &'a Line,
+    pieces: &mut Pieces<'a>,
+    values: &mut Values,
 ) -> Result<Form, ParseFault>
     ensures ok { IfOk result (λ f. f ≡ resolved (scope_of (keys_of table.now) locals.now) line.now.1) }
     ensures fault { IfErr result (λ f. f ≡ ParseFault.NoMemory) }
 {
     let names = Names { table, locals };
     let head = line.head();
-    let mut pieces = pieces_of(alloc, &names, rest(line.words().as_slice()))?;
-    let mut values = values_in(alloc, &names, head.slots(), &mut pieces)?;
-    Ok(form_of(head, &mut values))
+    read_pieces(alloc, &names, rest(line.words().as_slice()), pieces)?;
+    read_values(&names, head.slots(), pieces, values)?;
+    Ok(form_of(head, values))
 }
 
 /// Lines of a text with their names resolved, each below the parameter and locals in force: those of the lines since the last
@@ -45,9 +47,18 @@ pub fn resolve_lines(alloc: Global, table: &Table, lines: &[Line]) -> Result<Vec
 {
     let mut locals = Items::new(alloc);
     let mut forms = Vec::new(alloc);
+    let mut pieces = Pieces::new(alloc);
+    let mut values = Values::new(alloc);
     for line in lines {
         pass_locals(alloc, &mut locals, line)?;
-        forms.push(resolve(alloc, table, locals.as_slice(), line)?)?;
+        forms.push(resolve(
+            alloc,
+            table,
+            locals.as_slice(),
+            line,
+            &mut pieces,
+            &mut values,
+        )?)?;
     }
     Ok(forms)
 }

@@ -1,6 +1,6 @@
 //! The values in the slots of a line, which its form takes one by one.
 
-ghost use Rattle.std.specs.Prelude.{◌≡◌, pos, IfOk, IfErr};
+ghost use Rattle.std.specs.Prelude.{◌≡◌, [], reverse, OnOk, IfErr};
 ghost use Rattle.thr_text.specs.declared.fault.ParseFault.TheVariants as ParseFault;
 ghost use Rattle.thr_text.specs.Faults.{first_of};
 ghost use Rattle.thr_resolving.specs.Resolving as Resolving;
@@ -159,6 +159,15 @@ fn size_of(number: i64) -> u32
 }
 
 impl Values {
+    /// No values.
+    pub fn new(alloc: Global) -> Values
+        ensures { result ≡ [] }
+    {
+        Values {
+            reversed: Vec::new(alloc),
+        }
+    }
+
     /// Takes the first value, if there is one.
     fn pop(&mut self) -> Option<Value>
         ensures first { result ≡ first_of self.old }
@@ -272,20 +281,33 @@ impl Values {
     }
 }
 
-/// The values in these slots, each made of the next piece. The pieces are taken.
-pub fn values_in(
-    alloc: Global,
+/// The values in these slots, each made of the next piece, from the last on.
+fn fill(
     names: &Names,
     slots: &[Slot],
     pieces: &mut Pieces,
-) -> Result<Values, ParseFault>
-    ensures ok { IfOk result (λ vs. vs ≡ Resolving.values_in (scope_seen names.now) slots.now pieces.old) }
+    values: &mut Vec<Value>,
+) -> Result<(), ParseFault>
+    ensures ok { OnOk result (reverse values.new.items ≡ Resolving.values_in (scope_seen names.now) slots.now pieces.old) }
     ensures fault { IfErr result (λ f. f ≡ ParseFault.NoMemory) }
 {
-    let mut values = Vec::with_capacity(alloc, slots.len())?;
+    values.clear();
     for slot in slots {
         values.push(value_in(names, *slot, pieces.pop())?)?;
     }
     values.reverse();
-    Ok(Values { reversed: values })
+    Ok(())
+}
+
+/// Puts the values in these slots in the place of those that are there, each made of the next piece. The pieces are taken.
+pub fn read_values(
+    names: &Names,
+    slots: &[Slot],
+    pieces: &mut Pieces,
+    values: &mut Values,
+) -> Result<(), ParseFault>
+    ensures ok { OnOk result (values.new ≡ Resolving.values_in (scope_seen names.now) slots.now pieces.old) }
+    ensures fault { IfErr result (λ f. f ≡ ParseFault.NoMemory) }
+{
+    fill(names, slots, pieces, &mut values.reversed)
 }

@@ -1,11 +1,11 @@
 use Rattle.std.proofs.Common.{arith, ◌∙◌}
 use Rattle.thr_resolving.specs.Seen.{scope_seen}
 use Rattle.thr_resolving.proofs.Walks.{no_words, word_more}
-use Rattle.thr_resolving.proofs.pieces.pieces_of.Goals as goal
+use Rattle.thr_resolving.proofs.pieces.read_pieces.Goals as goal
 
 pub loop-left-init : goal.loop-left-init
 loop-left-init c = record {
-  taken = c.in_ok-pieces.ensures.ok ∙ no_words (scope_seen c.args.names.now) c.args.words.now;
+  taken = c.clear.ensures ∙ no_words (scope_seen c.args.names.now) c.args.words.now;
   within = omega arith;
 }
 

@@ -3,7 +3,7 @@ use Rattle.std.proofs.lemmas.List.{reverse-reverse}
 use Rattle.thr_resolving.specs.declared.value.Value.{Value}
 use Rattle.thr_resolving.specs.Seen.{scope_seen}
 use Rattle.thr_resolving.proofs.Walks.{slot_more, slots_end}
-use Rattle.thr_resolving.proofs.values.values_in.Goals as goal
+use Rattle.thr_resolving.proofs.values.fill.Goals as goal
 
 pub loop-slot-preserved : goal.loop-slot-preserved
 loop-slot-preserved c =

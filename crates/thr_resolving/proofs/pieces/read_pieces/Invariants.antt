@@ -1,7 +1,7 @@
 use Rattle.std.proofs.Common.{◌≡◌, ◌≤◌, drop, length}
 use Rattle.thr_resolving.specs.Resolving.{pieces_of}
 use Rattle.thr_resolving.specs.Seen.{scope_seen}
-use Rattle.thr_resolving.proofs.pieces.pieces_of.Given as goal
+use Rattle.thr_resolving.proofs.pieces.read_pieces.Given as goal
 
 abbrev pub invariant-loop-left : goal.invariant-loop-left
 invariant-loop-left l = record {
