@@ -146,10 +146,10 @@ fn read_words(alloc: Global, text: &[u8]) -> Result<Words, LexFault>
 {
     // Words lie apart, so that half of the bytes begin one at most.
     let room = text.len().div_ceil(2).min(24);
-    let mut words = Words::with_capacity(alloc, room)?;
+    let mut words = Words::new(alloc);
     for piece in text.split(|b| is_blank(*b)) {
         if !piece.is_empty() {
-            words.push(read_word(alloc, piece)?)?;
+            words.push(read_word(alloc, piece)?, room)?;
         }
     }
     Ok(words)
@@ -157,7 +157,7 @@ fn read_words(alloc: Global, text: &[u8]) -> Result<Words, LexFault>
 
 /// The words of one line without its ending, or the least fault of the line (docs/script.md, "Words" and "Faults"). The
 /// reader of scripts calls it for each line. Each byte is looked at a bounded number of times. Memory is taken for the list,
-/// once where the line has at most 24 words, and for the texts of names and marks.
+/// once where the line has 3 to 24 words, and for the texts of names and marks.
 pub fn lex_line(alloc: Global, line: &[u8]) -> Result<Words, LexFault>
     ensures words { IfOk result (λ ws. (word_faults line.now ≡ []) × (ws ≡ words_of line.now)) }
     ensures few { IfOk result (λ ws. length ws ≤ 24) }

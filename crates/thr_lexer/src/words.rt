@@ -1,10 +1,12 @@
 //! The words of one line, in their order.
 
-ghost use Rattle.std.specs.Prelude.{◌≡◌, ◌==◌, ◌<◌, [], ◌∷◌, ◌++◌, length, slice_get, IfOk, OnOk, OnErr, OnSome};
+ghost use Rattle.std.specs.Prelude.{◌≡◌, ◌==◌, ◌<◌, [], ◌∷◌, ◌++◌, length, slice_get, OnOk, OnSome, IfErr};
 ghost use Rattle.std.specs.Option.{option_copied};
+ghost use Rattle.thr_lexer.specs.declared.fault.LexFault.TheVariants as LexFault;
 
+use crate::fault::LexFault;
 use smallvec::SmallVec;
-use std::alloc::{AllocError, AllocFailed, Global};
+use std::alloc::Global;
 use std::marker::Model;
 use thr_text::word::Word;
 
@@ -24,20 +26,25 @@ impl Model for Words {
 }
 
 impl Words {
-    /// No words, with room for so many.
-    pub(crate) fn with_capacity(alloc: Global, count: usize) -> Result<Words, AllocError>
-        ensures { IfOk result (λ words. words ≡ []) }
+    /// No words.
+    pub(crate) fn new(alloc: Global) -> Words
+        ensures { result ≡ [] }
     {
-        Ok(Words {
-            words: SmallVec::with_capacity(alloc, count)?,
-        })
+        Words {
+            words: SmallVec::new(alloc),
+        }
     }
 
-    pub(crate) fn push(&mut self, word: Word) -> Result<(), AllocFailed<Word>>
+    /// Puts a word behind the others. The first that has no room in the line itself takes memory for so many words.
+    pub(crate) fn push(&mut self, word: Word, room: usize) -> Result<(), LexFault>
         ensures ok { OnOk result (self.new ≡ self.old ++ word ∷ []) }
-        ensures err { OnErr result (self.new ≡ self.old) }
+        ensures fault { IfErr result (λ f. f ≡ LexFault.NoMemory) }
     {
-        self.words.push(word)
+        if self.words.len() == 2 {
+            self.words.reserve_exact(room.saturating_sub(2))?;
+        }
+        self.words.push(word)?;
+        Ok(())
     }
 
     pub fn as_slice(&self) -> &[Word]

@@ -10,7 +10,7 @@ use Rattle.thr_lexer.proofs.lex.read_words.Goals as goal
 pub returns-in_err-read_word-clause-fault : goal.returns-in_err-read_word-clause-fault
 returns-in_err-read_word-clause-fault c =
     let t = YieldsList-turn (YieldsList-from_slice_split _ is_blank c.args.text.now (cc) (cc) (cc) (λ x r q k. search (rules, tests))) c.loop-piece.yielded _ c.loop-piece.yielded_by _ _ c.in-Some.piece c.in-Some.is c.next.ensures.steps in
-    let p = err_from_is_err_and c.from_residual-in_err-read_word.result c.from_residual-in_err-read_word.ensures.1 in
+    let p = err_from_is_err_and c.from_residual.result c.from_residual.ensures.1 in
     let kept : is_something c.in-Some.piece.now ≡ true = ap not (sym c.is_empty.ensures ∙ c.if-not-is_empty.true) in
     rw (p.1, p.2) (elim c.in_err-read_word.ensures.fault [
       | inl m ↦ inl m
