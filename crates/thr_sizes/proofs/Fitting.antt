@@ -1,5 +1,5 @@
 -- What is left to do in a thread, and its lines, with numbers that are bounded.
-use Rattle.std.proofs.Common.{◌≡◌, ℕ, zero, suc, ◌+◌, ◌≤◌, ℤ, pos, Bool, true, false, List, [], ◌∷◌, ◌++◌, Option, Some, None, refl, arith}
+use Rattle.std.proofs.Common.{◌≡◌, ℕ, zero, suc, ◌≤◌, ℤ, pos, Bool, true, false, List, [], ◌∷◌, ◌++◌, Option, Some, None, refl, arith}
 use Rattle.std.specs.Prelude.{if◌then◌else◌, length, replicate, slice_set}
 use Rattle.thr_values.specs.declared.call.Arg.{Arg}
 use Rattle.thr_values.specs.declared.call.CallWord.{CallWord}
@@ -76,13 +76,14 @@ reply_bytes word.Read = 20
 reply_bytes word.CondTimedwait = 6
 reply_bytes _ = 7
 
--- The line of a call is that of one with values that fit, and its reply is as short as those of the call are.
+-- The line of a call is that of one with values that fit, and its reply fits and is as short as those of the call are.
 pub record CallFits (c : CallWord) (args : List Arg) (y : Reply) : Type 0 where
   pub call : DceCall
   pub values : List ℤ
   pub is_word : (shape_of call).word ≡ c
   pub are_arguments : arguments call values ≡ args
   pub fit : AllFit values
+  pub says : ReplyFits y
   pub short : length (reply_word y) ≤ reply_bytes c
 
 -- The numbers of scopes, unwindings and lines are at most this, values fit, and so do the arguments and the reply of a call.

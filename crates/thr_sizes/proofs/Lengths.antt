@@ -3,7 +3,7 @@ use Rattle.std.proofs.Common.{◌≡◌, ℕ, zero, suc, ◌+◌, ◌*◌, ◌�
 use Rattle.std.specs.Prelude.{nat_lt, nat_le, ◌==◌, is_some}
 use Rattle.std.specs.List.{list_all, filter}
 use Rattle.std.specs.Fmt.{decimal, signed_decimal}
-use Rattle.std.proofs.lemmas.Bool.{leb-true, false≢true}
+use Rattle.std.proofs.lemmas.Bool.{and_parts, leb-true, false≢true}
 use Rattle.std.proofs.lemmas.Bool.Decides.{nat_tests}
 use Rattle.std.proofs.lemmas.List.{length-map}
 use Rattle.thr_values.specs.Words.{call_word}
@@ -427,8 +427,57 @@ legal_lines s n entries stop formed few legal number low =
     (all_short s.names (names_short s formed) number n k x.entries low few (low_bound (length (lines_of s)) (length x.entries) (few_lines s formed) (count_few formed legal.history)) fits.lines
     (entries_low s formed legal.history))
 
+-- Where all pass the test, so does each.
+all_at : (test : Entry → Bool) (before after : List Entry) (e : Entry) → list_all test (before ++ e ∷ after) ≡ true → test e ≡ true
+all_at test [] after e h = (and_parts (test e) (list_all test after) h).0
+all_at test (b ∷ before) after e h = all_at test before after e (and_parts (test b) (list_all test (before ++ e ∷ after)) h).1
+
+low_place : (before after : List Entry) (e : Entry) → length (before ++ e ∷ after) ≤ 1001100 → length before + 1 < 10000000
+low_place before after e few = omega (arith, few, length-append before (e ∷ after))
+
+-- Each line of a legal history with its own number.
+pub legal_line : (s : Script) (n : ℕ) (entries : List Entry) (stop : Stop) → Formed s → n ≤ 16 → Legal s n entries stop
+    → (before after : List Entry) (e : Entry) → entries ≡ before ++ e ∷ after → length (numbered_line s.names (length before + 1) e) ≤ 120
+legal_line s n entries stop formed few legal before after e parts =
+    let number : ℕ = length before + 1 in
+    let test = λ (x : Entry). nat_le (length (numbered_line s.names number x)) 120 in
+    let low : number < 10000000 = low_place before after e (subst (λ (es : List Entry). length es ≤ 1001100) parts (legal_few s n entries stop formed legal)) in
+    let all : list_all test (before ++ e ∷ after) ≡ true = subst (λ (es : List Entry). list_all test es ≡ true) parts (legal_lines s n entries stop formed few legal number low) in
+    leb-true (length (numbered_line s.names number e)) 120 (all_at test before after e all)
+
 bytes_few : (n k : ℕ) → k ≤ 120 * n → n ≤ 1001100 → k ≤ 129149640
 bytes_few n k h few = omega (arith, h, few)
+
+-- The numbers of the stop fit.
+legal_ends : (s : Script) (n : ℕ) (entries : List Entry) (stop : Stop) → Formed s → Legal s n entries stop → is_formed_stop stop ≡ true
+legal_ends s n entries stop formed legal =
+    let x : Execution = legal.execution in
+    let h : History s n x = legal.history in
+    let tables : IsCanonicalState x.state = canonical-state h in
+    holds_formed s x.state (length entries) stop
+    (omega (arith, length-map (filter is_live x.state.threads.records) (λ (e : ℕ × Thread). thread e.0), filter_few is_live x.state.threads.records, history_few h))
+    (first_low x.state.threads.next x.state.threads.records (next_low formed h) tables.records (numbers_given h)) legal.stops
+
+-- The numbers of the lines and of the stop are bounded.
+pub record LegalFits (n : ℕ) (entries : List Entry) (stop : Stop) : Type 0 where
+  pub highest : ℕ
+  pub small : highest < 1000000000
+  pub lines : EntriesFit n highest entries
+  pub low : AreLow entries
+  pub ends : is_formed_stop stop ≡ true
+
+pub legal_fits : (s : Script) (n : ℕ) (entries : List Entry) (stop : Stop) → Formed s → Legal s n entries stop → LegalFits n entries stop
+legal_fits s n entries stop formed legal =
+    let x : Execution = legal.execution in
+    let h : History s n x = legal.history in
+    let k : ℕ = bound (length (lines_of s)) (length x.entries) in
+    let fits : HistoryFits s n x = history_fits s formed (few_lines s formed) h in record {
+      highest = k;
+      small = low_bound (length (lines_of s)) (length x.entries) (few_lines s formed) (count_few formed h);
+      lines = subst (EntriesFit n k) legal.lines fits.lines;
+      low = subst AreLow legal.lines (entries_low s formed h);
+      ends = legal_ends s n entries stop formed legal;
+    }
 
 pub legal_text : (s : Script) (n : ℕ) (entries : List Entry) (stop : Stop) → Formed s → n ≤ 16 → Legal s n entries stop → length (text s n entries stop) ≤ 134217728
 legal_text s n entries stop formed few legal =
@@ -437,13 +486,8 @@ legal_text s n entries stop formed few legal =
     let k : ℕ = bound (length (lines_of s)) (length x.entries) in
     let count : length x.entries ≤ 1001100 = count_few formed h in
     let fits : HistoryFits s n x = history_fits s formed (few_lines s formed) h in
-    let tables : IsCanonicalState x.state = canonical-state h in
     let wide : length (numbered s.names 1 x.entries) ≤ 120 * length x.entries =
     numbered_short s.names (names_short s formed) 1 n k x.entries (omega (arith, count)) few (low_bound (length (lines_of s)) (length x.entries) (few_lines s formed) count) fits.lines
     (entries_low s formed h) in
-    let ends : is_formed_stop stop ≡ true =
-    holds_formed s x.state (length entries) stop
-    (omega (arith, length-map (filter is_live x.state.threads.records) (λ (e : ℕ × Thread). thread e.0), filter_few is_live x.state.threads.records, history_few h))
-    (first_low x.state.threads.next x.state.threads.records (next_low formed h) tables.records (numbers_given h)) legal.stops in
-    text_width s n entries stop formed few ends
+    text_width s n entries stop formed few (legal_ends s n entries stop formed legal)
     (subst (λ (es : List Entry). length (numbered s.names 1 es) ≤ 129149640) legal.lines (bytes_few (length x.entries) (length (numbered s.names 1 x.entries)) wide count))

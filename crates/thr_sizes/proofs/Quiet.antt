@@ -1,7 +1,6 @@
 -- The quiet part of a turn leaves numbers that are bounded, and so does what ends it.
 use Rattle.std.proofs.Common.{◌≡◌, ℕ, zero, suc, ◌+◌, ◌*◌, ◌≤◌, Bool, true, false, List, [], ◌∷◌, Option, Some, None, refl, arith}
 use Rattle.std.specs.Prelude.{if◌then◌else◌}
-use Rattle.thr_values.specs.declared.history.What.{What}
 use Rattle.thr_values.specs.declared.scheduling.Mode.{Mode}
 use Rattle.thr_syntax.specs.Shared.{is_shared}
 use Rattle.thr_remainder.specs.declared.unwinding.Unwinding.{Unwinding}

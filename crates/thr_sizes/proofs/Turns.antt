@@ -161,7 +161,7 @@ module _ (n k : ℕ) where
           let o : Answered = answered s st t call ns in
           let a : AnswerFits k (shape_of call).word o = answered_fits k can.small s st t can.room can.writing holds call ns f in
           after_fits (thread_line t (what.Call (shape_of call).word (arguments call ns) o.reply) ∷ gift_lines o.gifts) (moved (with_stores o.state r o.reply) t (after_reply g call o.runs r o.reply))
-          ((tt, record { call = call; values = ns; is_word = refl; are_arguments = refl; fit = f; short = a.short }), gifts_fit o.gifts)
+          ((tt, record { call = call; values = ns; is_word = refl; are_arguments = refl; fit = f; says = a.says; short = a.short }), gifts_fit o.gifts)
           (moved_fits (with_stores o.state r o.reply) t (after_reply g call o.runs r o.reply) (stores_hold o.state r o.reply a.says a.state) (reply_fits g call o.runs r o.reply a.says h))
       called_fits call r (Err x) h f = moved_fits st t (raised x r) holds (raise_fits x r h f)
 

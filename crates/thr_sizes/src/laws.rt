@@ -1,6 +1,6 @@
 //! Laws on the lengths of legal histories and their journals.
 
-ghost use Rattle.std.specs.Prelude.{◌≡◌, ◌≤◌, ◌<◌, ℕ, List, length, nat_le, true};
+ghost use Rattle.std.specs.Prelude.{◌≡◌, ◌≤◌, ◌<◌, ◌+◌, ℕ, List, ◌∷◌, ◌++◌, length, nat_le, true};
 ghost use Rattle.std.specs.List.{list_all};
 ghost use Rattle.thr_values.specs.declared.event.Stop.{Stop};
 ghost use Rattle.thr_values.specs.declared.history.Entry.{Entry};
@@ -16,10 +16,12 @@ pub fn legal_histories_have_few_lines()
 {}
 
 /// The text of each of its lines, with a number of at most seven digits and its end, is at most 120 bytes, where there are at most 16
-/// processors.
+/// processors. So it is with the number that the line has in the journal, which is one more than the lines before it.
 pub fn lines_of_legal_histories_are_short()
-    ensures { (s : Script) (n : ℕ) (entries : List Entry) (stop : Stop) → Formed s → n ≤ 16 → Legal s n entries stop
+    ensures with_any_number { (s : Script) (n : ℕ) (entries : List Entry) (stop : Stop) → Formed s → n ≤ 16 → Legal s n entries stop
         → (number : ℕ) → number < 10000000 → list_all (λ (e : Entry). nat_le (length (numbered_line s.names number e)) 120) entries ≡ true }
+    ensures with_their_numbers { (s : Script) (n : ℕ) (entries : List Entry) (stop : Stop) → Formed s → n ≤ 16 → Legal s n entries stop
+        → (before after : List Entry) (e : Entry) → entries ≡ before ++ e ∷ after → length (numbered_line s.names (length before + 1) e) ≤ 120 }
 {}
 
 /// The text of its journal is at most 134,217,728 bytes, its script and its stop line with it.
