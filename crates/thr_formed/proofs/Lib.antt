@@ -1,0 +1,11 @@
+pub mod Named
+pub mod Statements
+pub mod Faults
+pub mod Moves
+pub mod Quiet
+pub mod Given
+pub mod Asked
+pub mod Turns
+pub mod Histories
+pub mod Arguments
+pub mod Lines
