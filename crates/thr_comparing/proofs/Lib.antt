@@ -1,0 +1,4 @@
+pub mod Drops
+pub mod Compared
+pub mod Texts
+pub mod Told
