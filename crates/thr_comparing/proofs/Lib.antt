@@ -1,4 +1,2 @@
-pub mod Drops
-pub mod Compared
 pub mod Texts
 pub mod Told

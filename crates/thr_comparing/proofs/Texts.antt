@@ -1,22 +1,12 @@
--- The texts of lines without their ends, and the lines of a journal at their places.
-use Rattle.std.proofs.Common.{◌≡◌, ℕ, zero, suc, ◌+◌, ◌-◌, ◌<◌, ◌≤◌, List, [], ◌∷◌, ◌++◌, length, take, get_or, slice_get, unwrap_or, length-append, Option, Some, None, refl, sym, ◌∙◌, ap, arith}
+-- The lines of a journal at their places, and their texts.
+use Rattle.std.proofs.Common.{◌≡◌, ℕ, zero, suc, ◌+◌, ◌-◌, ◌<◌, ◌≤◌, List, [], ◌∷◌, length, get_or, slice_get, unwrap_or, Option, Some, refl, sym, ◌∙◌, ap, arith}
 use Rattle.std.specs.Prelude.{IfOk, Result, Ok, Err}
-use Rattle.std.specs.List.{join_with_byte}
-use Rattle.std.proofs.Math.Seq.{take-append_seam}
 use Rattle.thr_values.specs.declared.event.Stop.{Stop}
 use Rattle.thr_values.specs.declared.number.NoMemory.{NoMemory}
 use Rattle.thr_text.specs.Journals.{Names}
 use Rattle.thr_comparing.specs.Verdicts.{line_text}
 use Rattle.thr_values.specs.declared.history.Entry.{Entry}
-use Rattle.thr_syntax.specs.Canon.{line}
 use Rattle.thr_verdict.specs.Verdicts.{JournalLine, Numbered, Stopped, lines_below, line_at}
-
--- A line without its end.
-pub no_end : (ws : List (List ℕ)) (out old : List ℕ) (n : ℕ) → old ≡ line ws → n ≡ length old - 1 → out ≡ take n old → out ≡ join_with_byte 32 ws
-no_end ws out old n is len cut =
-    let all : length old ≡ length (join_with_byte 32 ws) + 1 = ap length is ∙ length-append (join_with_byte 32 ws) (10 ∷ []) in
-    let short : n ≡ length (join_with_byte 32 ws) = omega (arith, all, len) in
-    cut ∙ (λ i. take (short i) (is i)) ∙ take-append_seam (join_with_byte 32 ws) (10 ∷ [])
 
 -- ---- the line at a place
 
