@@ -1,0 +1,10 @@
+//! Verdicts on journals: a journal is replayed on the machine, event by event (docs/journal.md, "The verdict").
+#![tactic(auto)]
+
+mod events;
+mod replay;
+mod verifying;
+
+pub use thr_comparing::verdict::{Differs, Verdict};
+pub use thr_comparing::verdict_text;
+pub use verifying::verify;
