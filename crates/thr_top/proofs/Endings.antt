@@ -1,14 +1,12 @@
 -- How runs end.
-use Rattle.std.proofs.Common.{◌≡◌, ◌<◌, ◌≤◌, ◌^◌, ℕ, List, [], ◌∷◌, ◌++◌, length, refl, sym, ap, ◌∙◌, subst, arith, append-nil, inl, inr}
+use Rattle.std.proofs.Common.{◌≡◌, ◌<◌, ◌≤◌, ◌^◌, ℕ, List, [], ◌∷◌, ◌++◌, refl, sym, ap, ◌∙◌, subst, arith, append-nil, inl, inr}
 use Rattle.std.proofs.lemmas.Fmt.{decimal_injective}
-use Rattle.std.specs.Prelude.{◌≢◌, Option, Some, None, IfSome, codes, ◌⊎◌}
+use Rattle.std.specs.Prelude.{◌≢◌, Option, Some, codes, ◌⊎◌}
 use Rattle.std.specs.Fmt.{decimal, signed_decimal}
-use Rattle.std.specs.Io.KnownBytes.{Appends}
 use Rattle.thr_values.specs.declared.event.Stop.{Stop}
 use Rattle.thr_values.specs.declared.event.Stop.TheVariants as stops
 use Rattle.thr_values.specs.declared.history.Entry.{Entry}
 use Rattle.thr_syntax.specs.declared.tree.Script.{Script}
-use Rattle.thr_wire.specs.Bytes.{TookMoreThan, TookAll}
 use Rattle.thr_text.specs.Reading.{Formed}
 use Rattle.thr_model.specs.Histories.{Execution, History, Legal}
 use Rattle.thr_machine.specs.Views.{BookView}
@@ -17,26 +15,14 @@ use Rattle.thr_alone.specs.Only.{IsOnlyHistory}
 use Rattle.thr_lawful.specs.Laws.{MeetsLaws}
 use Rattle.thr_model.specs.States.{State, shared_values}
 use Rattle.thr_verdict.specs.Made.{made, numbers_from, total, caught}
-use Rattle.thr_top.specs.Answers.{IsRun, IsRunStatus, Refuses, RunAnswers, CheckAnswers, IsMake, IsTrial, TrialAnswers, tried, status_of, Ends, Gives, answered, unread, no_memory, not_run, not_checked, whole, max_script, one_line, shared_text, trial_workers}
-
-gains-nothing : (o : Option (List ℕ)) → Appends o o []
-gains-nothing None = tt
-gains-nothing (Some xs) = sym (append-nil xs)
-
-pub ends-no-memory : (Answers : ℕ → List ℕ → Type 0) (old : Option (List ℕ)) → Answers 5 [] → Ends Answers old old 5
-ends-no-memory Answers old none = answered 5 [] none (whole refl (gains-nothing old))
-
-pub ends-unread : (Answers : ℕ → List ℕ → Type 0) (old : Option (List ℕ)) → Ends Answers old old 3
-ends-unread Answers old = unread refl (gains-nothing old)
+use Rattle.thr_endings.specs.Endings.{Ends, answered, unread, one_line}
+use Rattle.thr_top.specs.Answers.{IsRun, IsRunStatus, Refuses, RunAnswers, CheckAnswers, IsMake, IsTrial, TrialAnswers, tried, status_of, no_memory, not_run, not_checked, shared_text, trial_workers}
 
 pub no-memory-run : (n : ℕ) (input : List ℕ) → RunAnswers n input 5 []
 no-memory-run n input = not_run (no_memory refl refl)
 
 pub no-memory-check : (input : List ℕ) → CheckAnswers input 5 []
 no-memory-check input = not_checked (no_memory refl refl)
-
-pub gives-no-memory : (Answers : ℕ → List ℕ → Type 0) (old : Option (List ℕ)) → Answers 5 [] → Gives Answers old old 5
-gives-no-memory Answers old none = record { wanted = 5; written = []; answers = none; writes = whole refl (gains-nothing old) }
 
 -- An input that is refused for itself, by either command.
 pub run-refused : (n : ℕ) (input : List ℕ) (old new : Option (List ℕ)) (status : ℕ) → Ends (Refuses input) old new status → Ends (RunAnswers n input) old new status
@@ -46,22 +32,6 @@ run-refused n input old new status (answered w t r x) = answered w t (not_run r)
 pub check-refused : (input : List ℕ) (old new : Option (List ℕ)) (status : ℕ) → Ends (Refuses input) old new status → Ends (CheckAnswers input) old new status
 check-refused input old new status (unread e a) = unread e a
 check-refused input old new status (answered w t r x) = answered w t (not_checked r) x
-
--- what holds of the bytes that were read holds of those that were left, where they are told
-pub told-all : (left now : Option (List ℕ)) (bytes : List ℕ) (P : List ℕ → Type 0) → TookAll left now bytes → P bytes → IfSome left P
-told-all None now bytes P t p = tt
-told-all (Some before) (Some now) bytes P t p = subst P (sym t.0) p
-told-all (Some before) None bytes P t p = absurd t
-
-pub told-any : (left : Option (List ℕ)) (P : List ℕ → Type 0) → ((input : List ℕ) → P input) → IfSome left P
-told-any None P p = tt
-told-any (Some before) P p = p before
-
--- where more than the limit was taken, more was left
-pub told-long : (left now : Option (List ℕ)) (P : List ℕ → Type 0) → IfSome left (λ before. TookMoreThan max_script before now) → ((input : List ℕ) → max_script < length input → P input) → IfSome left P
-told-long None now P t p = tt
-told-long (Some before) None P t p = absurd t
-told-long (Some before) (Some now) P t p = p before (omega arith)
 
 -- ---- what a run meets
 
@@ -80,12 +50,6 @@ only-of law s told n workers es stop same count legal cause one =
 pub runs-well : (status : ℕ) → IsRunStatus status ⊎ (status ≡ 4) → (status ≡ 4 → ⊥) → IsRunStatus status
 runs-well status (inl e) never = e
 runs-well status (inr e) never = absurd (never e)
-
--- one of three statuses, where the third is ruled out
-pub finishes-well : (status : ℕ) → (status ≡ 0) ⊎ ((status ≡ 5) ⊎ (status ≡ 4)) → (status ≡ 4 → ⊥) → (status ≡ 0) ⊎ (status ≡ 5)
-finishes-well status (inl e) never = inl e
-finishes-well status (inr (inl e)) never = inr e
-finishes-well status (inr (inr e)) never = absurd (never e)
 
 -- ---- how many workers are asked for
 

@@ -1,7 +1,6 @@
 -- What the program answers, and what it writes (docs/theorems.md, "The top call").
-use Rattle.std.specs.Prelude.{◌≡◌, ◌≢◌, ◌⊎◌, ℕ, ◌≤◌, ◌<◌, ◌^◌, map, List, [], ◌∷◌, ◌++◌, length, take, codes, Option, Some}
+use Rattle.std.specs.Prelude.{◌≡◌, ◌≢◌, ◌⊎◌, ℕ, ◌≤◌, ◌<◌, ◌^◌, map, List, [], ◌∷◌, ◌++◌, length, codes, Some}
 use Rattle.std.specs.Fmt.{decimal, signed_decimal}
-use Rattle.std.specs.Io.KnownBytes.{Appends}
 use Rattle.thr_values.specs.declared.history.Entry.{Entry}
 use Rattle.thr_values.specs.declared.event.Stop.{Stop}
 use Rattle.thr_values.specs.declared.event.Stop.TheVariants as stops
@@ -19,6 +18,7 @@ use Rattle.thr_model.specs.States.{State, shared_values}
 use Rattle.thr_alone.specs.Only.{IsOnlyHistory}
 use Rattle.thr_lawful.specs.Laws.{MeetsLaws}
 use Rattle.thr_verdict.specs.Made.{made}
+use Rattle.thr_endings.specs.Endings.{one_line}
 
 -- ---- the words of the commands that are built
 
@@ -34,6 +34,9 @@ AsksRun words = (workers : ℕ) × IsRun words workers
 
 abbrev pub IsCheck : List (List ℕ) → Type 0
 IsCheck words = words ≡ codes "check" ∷ []
+
+abbrev pub IsReport : List (List ℕ) → Type 0
+IsReport words = words ≡ codes "report" ∷ []
 
 -- The words ask to make the script of a number of 32 bits, for so many workers, from 1 to 64.
 pub record IsMake (words : List (List ℕ)) (number workers : ℕ) : Type 0 where
@@ -63,11 +66,15 @@ NeedsWorkers words = AsksRun words ⊎ AsksTrial words
 
 -- The words have a form that is built and needs no workers.
 abbrev pub IsPlain : List (List ℕ) → Type 0
-IsPlain words = IsCheck words ⊎ AsksMake words
+IsPlain words = IsCheck words ⊎ (IsReport words ⊎ AsksMake words)
 
 -- The words have a form that is built and reads a script.
 abbrev pub ReadsScript : List (List ℕ) → Type 0
 ReadsScript words = AsksRun words ⊎ IsCheck words
+
+-- The words have a form that is built and reads a journal.
+abbrev pub ReadsJournal : List (List ℕ) → Type 0
+ReadsJournal words = IsReport words
 
 -- The words have a form that is built.
 abbrev pub IsCommand : List (List ℕ) → Type 0
@@ -89,10 +96,6 @@ status_of stops.Memory = 5
 -- A run ends with one of these: all threads ended, nothing could go on, the lines came to the limit, or memory was wanting.
 abbrev pub IsRunStatus : ℕ → Type 0
 IsRunStatus status = (status ≡ 0) ⊎ ((status ≡ 6) ⊎ ((status ≡ 7) ⊎ (status ≡ 5)))
-
--- A text of one line.
-abbrev pub one_line : List ℕ → List ℕ
-one_line text = text ++ 10 ∷ []
 
 abbrev pub usage : List ℕ
 usage = one_line (codes "usage: dcethr run W | check | verify | report | make N T | trial N W")
@@ -149,23 +152,6 @@ pub data TrialAnswers (number workers : ℕ) (status : ℕ) (written : List ℕ)
   tried : (x : Execution) → History (made number trial_workers) workers x → (stop : Stop) → Legal (made number trial_workers) workers x.entries stop
       → stop ≢ stops.Memory → status ≡ status_of stop → written ≡ shared_text (made number trial_workers) x.state → TrialAnswers number workers status written
   not_tried : status ≡ 5 → written ≡ [] → TrialAnswers number workers status written
-
--- The text was written and this is its status, or the write failed with a part of the text written, which is status 4.
-pub data Writes (old new : Option (List ℕ)) (status wanted : ℕ) (written : List ℕ) : Type 0 where
-  whole : status ≡ wanted → Appends old new written → Writes old new status wanted written
-  failed : status ≡ 4 → (n : ℕ) → Appends old new (take n written) → Writes old new status wanted written
-
--- How a command ends, whose answers are these: its input was not read, or an answer was written.
-pub data Ends (Answers : ℕ → List ℕ → Type 0) (old new : Option (List ℕ)) (status : ℕ) : Type 0 where
-  unread : status ≡ 3 → Appends old new [] → Ends Answers old new status
-  answered : (wanted : ℕ) (written : List ℕ) → Answers wanted written → Writes old new status wanted written → Ends Answers old new status
-
--- How a command ends that reads nothing, whose answers are these.
-pub record Gives (Answers : ℕ → List ℕ → Type 0) (old new : Option (List ℕ)) (status : ℕ) : Type 0 where
-  pub wanted : ℕ
-  pub written : List ℕ
-  pub answers : Answers wanted written
-  pub writes : Writes old new status wanted written
 
 -- The input is the text of a script.
 abbrev pub IsScript : List ℕ → Type 0

@@ -5,13 +5,17 @@ ghost use Rattle.thr_wire.specs.Bytes.{TookAtMost, TookMoreThan};
 ghost use Rattle.thr_wire.specs.Causes.{Rose};
 ghost use Rattle.thr_text.specs.Faults.{first_of};
 ghost use Rattle.thr_text.specs.Reading.{Reads, faults};
-ghost use Rattle.thr_top.specs.Answers.{NeedsWorkers, AsksMake, IsCheck, IsMake, IsPlain, IsScript, MakeAnswers, Refuses, CheckAnswers, Ends, Gives, Writes, max_script, usage};
+ghost use Rattle.thr_endings.specs.Endings.{Ends, Gives, Writes};
+ghost use Rattle.thr_journal_commands.specs.Answers.{IsJournal, ReportAnswers, max_journal};
+ghost use Rattle.thr_top.specs.Answers.{NeedsWorkers, AsksMake, IsCheck, IsReport, IsMake, IsPlain, IsScript, ReadsJournal, MakeAnswers, Refuses, CheckAnswers, max_script, usage};
 
-use crate::answer::{give, refusal};
-use crate::command::{Status, Word, asks_check, made_of};
+use crate::answer::refusal;
+use crate::command::{Word, asks_check, asks_report, made_of};
 use crate::make::make;
 use std::alloc::Global;
+use thr_endings::{Status, give};
 use thr_grammar::{parse, print_with_room};
+use thr_journal_commands::report_on;
 use thr_syntax::tree::Script;
 use thr_text::fault::{ParseFault, Place};
 use thr_wire::fault::WireFault;
@@ -65,6 +69,28 @@ fn check_input<K: Sink>(alloc: Global, input: &[u8], sink: &mut K) -> Status
     }
 }
 
+/// Does what `check` says.
+fn check_on<S: Source, K: Sink>(alloc: Global, source: &mut S, sink: &mut K) -> Status
+    ensures at_most { TookAtMost (max_script + 1) (S.left source.old) (S.left source.new) }
+    ensures taken { result.0 ≢ 3 → result.0 ≢ 5 → IfSome (S.left source.old) (λ input. (S.left source.new ≡ Some []) ⊎ TookMoreThan max_script input (S.left source.new)) }
+    ensures check { IfSome (S.left source.old) (λ input. Ends (CheckAnswers input) (K.held sink.old) (K.held sink.new) result.0) }
+    ensures complete { IfSome (S.left source.old) (λ input.
+        IsScript input → ¬ (Rose (S.faults source.old) (S.faults source.new)) → ¬ (Rose (K.faults sink.old) (K.faults sink.new))
+        → (result.0 ≡ 0) ⊎ (result.0 ≡ 5)) }
+    ensures read { result.0 ≡ 3 → Rose (S.faults source.old) (S.faults source.new) }
+    ensures write { result.0 ≡ 4 → Rose (K.faults sink.old) (K.faults sink.new) }
+    ensures quiet_source { result.0 ≢ 3 → S.faults source.new ≡ S.faults source.old }
+    ensures quiet_sink { result.0 ≢ 4 → K.faults sink.new ≡ K.faults sink.old }
+    ensures known { (result.0 ≤ 5) × (result.0 ≢ 1) }
+{
+    match read_all(alloc, source, MAX_SCRIPT) {
+        Ok(input) => check_input(alloc, input.as_slice(), sink),
+        Err(WireFault::ReadFault) => Status(3),
+        Err(WireFault::TooLong) => give(sink, 2, b"refused too long\n"),
+        Err(WireFault::NoMemory) => Status(5),
+    }
+}
+
 /// Does what words say that need no workers (docs/theorems.md, "The top call"). It waits for nobody and returns.
 pub fn plain_top<S: Source, K: Sink>(
     alloc: Global,
@@ -73,20 +99,31 @@ pub fn plain_top<S: Source, K: Sink>(
     sink: &mut K,
 ) -> Status
     requires { ¬ (NeedsWorkers words.now) }
-    // Words of no form get the usage line, and where no script is asked for nothing is read.
+    // Words of no form get the usage line, and where neither a script nor a journal is asked for nothing is read.
     ensures usage { ¬ (IsPlain words.now) → Writes (K.held sink.old) (K.held sink.new) result.0 1 usage }
     ensures only_usage { result.0 ≡ 1 → ¬ (IsPlain words.now) }
-    ensures unread { ¬ (IsCheck words.now) → source.new ≡ source.old }
+    ensures unread { ¬ (IsCheck words.now) → ¬ (ReadsJournal words.now) → source.new ≡ source.old }
 
     // `check` takes all that the source has left, or more than the limit of it and nothing behind the byte that shows so.
     ensures at_most { IsCheck words.now → TookAtMost (max_script + 1) (S.left source.old) (S.left source.new) }
     ensures taken { IsCheck words.now → result.0 ≢ 3 → result.0 ≢ 5 → IfSome (S.left source.old) (λ input. (S.left source.new ≡ Some []) ⊎ TookMoreThan max_script input (S.left source.new)) }
+
+    // So does `report`, with the limit of a journal.
+    ensures journal_at_most { ReadsJournal words.now → TookAtMost (max_journal + 1) (S.left source.old) (S.left source.new) }
+    ensures journal_taken { ReadsJournal words.now → result.0 ≢ 3 → result.0 ≢ 5 → IfSome (S.left source.old) (λ input. (S.left source.new ≡ Some []) ⊎ TookMoreThan max_journal input (S.left source.new)) }
 
     // `check` writes the canonical text of the script, or what stands in its place. Where no device has a fault, the text of
     // a script gives 0, or 5 for want of memory.
     ensures check { IsCheck words.now → IfSome (S.left source.old) (λ input. Ends (CheckAnswers input) (K.held sink.old) (K.held sink.new) result.0) }
     ensures complete { IsCheck words.now → IfSome (S.left source.old) (λ input.
         IsScript input → ¬ (Rose (S.faults source.old) (S.faults source.new)) → ¬ (Rose (K.faults sink.old) (K.faults sink.new))
+        → (result.0 ≡ 0) ⊎ (result.0 ≡ 5)) }
+
+    // `report` writes the counts of a journal, or what stands in its place. Where no device has a fault, the text of a journal
+    // gives 0, or 5 for want of memory.
+    ensures report { IsReport words.now → IfSome (S.left source.old) (λ input. Ends (ReportAnswers input) (K.held sink.old) (K.held sink.new) result.0) }
+    ensures report_complete { IsReport words.now → IfSome (S.left source.old) (λ input.
+        IsJournal input → ¬ (Rose (S.faults source.old) (S.faults source.new)) → ¬ (Rose (K.faults sink.old) (K.faults sink.new))
         → (result.0 ≡ 0) ⊎ (result.0 ≡ 5)) }
 
     // `make` writes the canonical text of the script that is made, or nothing for want of memory.
@@ -103,13 +140,11 @@ pub fn plain_top<S: Source, K: Sink>(
     if let Some((number, workers)) = made_of(words) {
         return make(alloc, number, workers, sink);
     }
-    if !asks_check(words) {
-        return give(sink, 1, USAGE);
+    if asks_check(words) {
+        return check_on(alloc, source, sink);
     }
-    match read_all(alloc, source, MAX_SCRIPT) {
-        Ok(input) => check_input(alloc, input.as_slice(), sink),
-        Err(WireFault::ReadFault) => Status(3),
-        Err(WireFault::TooLong) => give(sink, 2, b"refused too long\n"),
-        Err(WireFault::NoMemory) => Status(5),
+    if asks_report(words) {
+        return report_on(alloc, source, sink);
     }
+    give(sink, 1, USAGE)
 }

@@ -2,20 +2,17 @@
 
 ghost use Rattle.std.specs.Prelude.{◌≡◌, ◌≢◌, ◌<◌, ◌≤◌, ◌^◌, ◌↔◌, ℕ, IsTrue, MatchOption, string_bytes};
 ghost use Rattle.std.specs.Fmt.{decimal};
-ghost use Rattle.thr_top.specs.Answers.{IsRun, AsksRun, IsMake, AsksMake, IsTrial, AsksTrial, NeedsWorkers, IsCheck};
+ghost use Rattle.thr_top.specs.Answers.{IsRun, AsksRun, IsMake, AsksMake, IsTrial, AsksTrial, NeedsWorkers, IsCheck, IsReport};
 
 use itoa::Buffer;
 use std::marker::Model;
+pub use thr_endings::Status;
 
 /// How many workers a run has at most.
 const MOST_PROCESSORS: u32 = 16;
 
 /// How many workers a made script has at most.
 const MOST_MADE: u32 = 64;
-
-/// What the program ends with (README.md, "Statuses").
-#[derive(Clone, Copy, Debug, PartialEq, Eq)]
-pub struct Status(pub u8);
 
 /// A word of the command line, which contracts see as its bytes.
 #[derive(Drop)]
@@ -126,6 +123,16 @@ pub fn asks_check(words: &[Word]) -> bool
 {
     match words {
         [check] => check.is("check"),
+        _ => false,
+    }
+}
+
+/// Whether the words ask for the report on a journal.
+pub fn asks_report(words: &[Word]) -> bool
+    ensures { IsTrue result ↔ IsReport words.now }
+{
+    match words {
+        [report] => report.is("report"),
         _ => false,
     }
 }

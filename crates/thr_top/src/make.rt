@@ -2,11 +2,11 @@
 
 ghost use Rattle.std.specs.Prelude.{◌≡◌, ◌≢◌, ◌≤◌, ◌⊎◌};
 ghost use Rattle.thr_wire.specs.Causes.{Rose};
-ghost use Rattle.thr_top.specs.Answers.{MakeAnswers, Gives};
+ghost use Rattle.thr_endings.specs.Endings.{Gives};
+ghost use Rattle.thr_top.specs.Answers.{MakeAnswers};
 
-use crate::answer::give;
-use crate::command::Status;
 use std::alloc::Global;
+use thr_endings::{Status, give};
 use thr_grammar::print;
 use thr_making::make_script;
 use thr_wire::wire::Sink;

@@ -4,16 +4,19 @@ ghost use Rattle.std.specs.Prelude.{◌≡◌, ◌≢◌, ◌≤◌, ◌+◌, �
 ghost use Rattle.thr_wire.specs.Bytes.{TookAtMost, TookMoreThan};
 ghost use Rattle.thr_wire.specs.Causes.{Rose};
 ghost use Rattle.thr_text.specs.Reading.{Formed, Reads};
-ghost use Rattle.thr_top.specs.Answers.{status_of, IsRun, AsksRun, IsMake, AsksMake, IsTrial, AsksTrial, NeedsWorkers, IsCheck, IsCommand, ReadsScript, IsScript, IsRunStatus, RunAnswers, CheckAnswers, MakeAnswers, TrialAnswers, Ends, Gives, Writes, max_script, usage};
+ghost use Rattle.thr_endings.specs.Endings.{Ends, Gives, Writes};
+ghost use Rattle.thr_journal_commands.specs.Answers.{IsJournal, ReportAnswers, max_journal};
+ghost use Rattle.thr_top.specs.Answers.{status_of, IsRun, AsksRun, IsMake, AsksMake, IsTrial, AsksTrial, NeedsWorkers, IsCheck, IsReport, IsCommand, ReadsJournal, ReadsScript, IsScript, IsRunStatus, RunAnswers, CheckAnswers, MakeAnswers, TrialAnswers, max_script, usage};
 
-use crate::answer::{give, status_of};
+use crate::answer::status_of;
 use crate::check::{MAX_SCRIPT, plain_top, refuse};
-use crate::command::{Status, Word, tried_of, workers_of};
+use crate::command::{Word, tried_of, workers_of};
 use crate::run::history_of;
 use crate::trial::trial;
 use std::alloc::Global;
 use std::sync::Wait;
 use std::thread::Threads;
+use thr_endings::{Status, give};
 use thr_grammar::parse;
 use thr_journal::print;
 use thr_syntax::tree::Script;
@@ -116,14 +119,18 @@ pub fn top<S: Source, K: Sink, R: Threads + Wait + Sync, G: Gate + Sync>(
     sink: &mut K,
     gate: &G,
 ) -> Status
-    // Words of no form get the usage line, and where no script is asked for nothing is read.
+    // Words of no form get the usage line, and where neither a script nor a journal is asked for nothing is read.
     ensures usage { ¬ (IsCommand words.now) → Writes (K.held sink.old) (K.held sink.new) result.0 1 usage }
     ensures only_usage { result.0 ≡ 1 → ¬ (IsCommand words.now) }
-    ensures unread { ¬ (ReadsScript words.now) → source.new ≡ source.old }
+    ensures unread { ¬ (ReadsScript words.now) → ¬ (ReadsJournal words.now) → source.new ≡ source.old }
 
     // `run` and `check` take all that the source has left, or more than the limit of it and nothing behind the byte that shows so.
     ensures at_most { ReadsScript words.now → TookAtMost (max_script + 1) (S.left source.old) (S.left source.new) }
     ensures taken { ReadsScript words.now → result.0 ≢ 3 → result.0 ≢ 5 → IfSome (S.left source.old) (λ input. (S.left source.new ≡ Some []) ⊎ TookMoreThan max_script input (S.left source.new)) }
+
+    // So does `report`, with the limit of a journal.
+    ensures journal_at_most { ReadsJournal words.now → TookAtMost (max_journal + 1) (S.left source.old) (S.left source.new) }
+    ensures journal_taken { ReadsJournal words.now → result.0 ≢ 3 → result.0 ≢ 5 → IfSome (S.left source.old) (λ input. (S.left source.new ≡ Some []) ⊎ TookMoreThan max_journal input (S.left source.new)) }
 
     // `run` writes the journal of a legal history of the script by so many workers, or what stands in its place. In that history each
     // unwinding takes its route through the open handlers until it is caught or replaced, no mutex has two owners, cancels are
@@ -134,6 +141,9 @@ pub fn top<S: Source, K: Sink, R: Threads + Wait + Sync, G: Gate + Sync>(
     // `check` writes the canonical text of the script, or what stands in its place.
     ensures check { IsCheck words.now → IfSome (S.left source.old) (λ input. Ends (CheckAnswers input) (K.held sink.old) (K.held sink.new) result.0) }
 
+    // `report` writes the counts of a journal, or what stands in its place.
+    ensures report { IsReport words.now → IfSome (S.left source.old) (λ input. Ends (ReportAnswers input) (K.held sink.old) (K.held sink.new) result.0) }
+
     // `make` writes the canonical text of the script that is made, or nothing for want of memory.
     ensures make { (number : ℕ) → (workers : ℕ) → IsMake words.now number workers → Gives (MakeAnswers number workers) (K.held sink.old) (K.held sink.new) result.0 }
 
@@ -141,13 +151,16 @@ pub fn top<S: Source, K: Sink, R: Threads + Wait + Sync, G: Gate + Sync>(
     // memory.
     ensures trial { (number : ℕ) → (workers : ℕ) → IsTrial words.now number workers → Gives (TrialAnswers number workers) (K.held sink.old) (K.held sink.new) result.0 }
 
-    // Where no device has a fault, the text of a script gives 0, or 5 for want of memory, and so does `make`. To `run`, and of a
-    // trial, 6 comes where nothing can go on, and 7 where the lines come to the limit.
+    // Where no device has a fault, the text of a script gives 0, or 5 for want of memory, and so do that of a journal to `report`,
+    // and `make`. To `run`, and of a trial, 6 comes where nothing can go on, and 7 where the lines come to the limit.
     ensures run_complete { AsksRun words.now → IfSome (S.left source.old) (λ input.
         IsScript input → ¬ (Rose (S.faults source.old) (S.faults source.new)) → ¬ (Rose (K.faults sink.old) (K.faults sink.new))
         → IsRunStatus result.0) }
     ensures check_complete { IsCheck words.now → IfSome (S.left source.old) (λ input.
         IsScript input → ¬ (Rose (S.faults source.old) (S.faults source.new)) → ¬ (Rose (K.faults sink.old) (K.faults sink.new))
+        → (result.0 ≡ 0) ⊎ (result.0 ≡ 5)) }
+    ensures report_complete { IsReport words.now → IfSome (S.left source.old) (λ input.
+        IsJournal input → ¬ (Rose (S.faults source.old) (S.faults source.new)) → ¬ (Rose (K.faults sink.old) (K.faults sink.new))
         → (result.0 ≡ 0) ⊎ (result.0 ≡ 5)) }
     ensures trial_complete { AsksTrial words.now → ¬ (Rose (K.faults sink.old) (K.faults sink.new)) → IsRunStatus result.0 }
     ensures make_complete { AsksMake words.now → ¬ (Rose (K.faults sink.old) (K.faults sink.new)) → (result.0 ≡ 0) ⊎ (result.0 ≡ 5) }

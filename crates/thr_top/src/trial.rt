@@ -5,13 +5,14 @@ ghost use Rattle.std.specs.Fmt.{signed_decimal};
 ghost use Rattle.thr_wire.specs.Causes.{Rose};
 ghost use Rattle.thr_model.specs.States.{shared_values};
 ghost use Rattle.thr_verdict.specs.Made.{made};
-ghost use Rattle.thr_top.specs.Answers.{Gives, IsRunStatus, TrialAnswers, one_line, shared_text, trial_workers};
+ghost use Rattle.thr_endings.specs.Endings.{Gives, one_line};
+ghost use Rattle.thr_top.specs.Answers.{IsRunStatus, TrialAnswers, shared_text, trial_workers};
 
-use crate::answer::{give, status_of};
-use crate::command::Status;
+use crate::answer::status_of;
 use std::alloc::{AllocError, Global};
 use std::sync::Wait;
 use std::thread::Threads;
+use thr_endings::{Status, give};
 use thr_machine::book::Book;
 use thr_made::laws::made_scripts_keep_the_rules;
 use thr_making::make_script;

@@ -4,7 +4,8 @@ use Rattle.thr_text.specs.declared.fault.ParseFault.TheVariants.{Refused}
 use Rattle.thr_text.specs.Reading.{faults}
 use Rattle.thr_grammar.specs.Parsing.{IsFirstStated}
 use Rattle.thr_top.specs.Answers.{CheckAnswers}
-use Rattle.thr_top.proofs.Endings.{ends-no-memory, no-memory-check, check-refused}
+use Rattle.thr_endings.proofs.Endings.{ends-no-memory}
+use Rattle.thr_top.proofs.Endings.{no-memory-check, check-refused}
 use Rattle.thr_top.proofs.check.check_input.Goals as goal
 
 pub returns-in-Ok-clause-ends : goal.returns-in-Ok-clause-ends

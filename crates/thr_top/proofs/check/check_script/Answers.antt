@@ -1,6 +1,8 @@
 use Rattle.std.proofs.Common.{refl, ◌∙◌}
-use Rattle.thr_top.specs.Answers.{CheckAnswers, answered, checked}
-use Rattle.thr_top.proofs.Endings.{ends-no-memory, no-memory-check}
+use Rattle.thr_endings.specs.Endings.{answered}
+use Rattle.thr_top.specs.Answers.{CheckAnswers, checked}
+use Rattle.thr_endings.proofs.Endings.{ends-no-memory}
+use Rattle.thr_top.proofs.Endings.{no-memory-check}
 use Rattle.thr_top.proofs.check.check_script.Goals as goal
 
 pub returns-in-Ok-clause-ends : goal.returns-in-Ok-clause-ends

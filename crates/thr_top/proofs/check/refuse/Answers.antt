@@ -1,6 +1,7 @@
 use Rattle.std.proofs.Common.{refl, ◌∙◌}
-use Rattle.thr_top.specs.Answers.{Refuses, answered, faulty, no_memory}
-use Rattle.thr_top.proofs.Endings.{ends-no-memory}
+use Rattle.thr_endings.specs.Endings.{answered}
+use Rattle.thr_top.specs.Answers.{Refuses, faulty, no_memory}
+use Rattle.thr_endings.proofs.Endings.{ends-no-memory}
 use Rattle.thr_top.proofs.check.refuse.Goals as goal
 
 pub returns-in-Ok-clause-refused : goal.returns-in-Ok-clause-refused

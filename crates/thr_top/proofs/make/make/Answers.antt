@@ -1,7 +1,7 @@
 use Rattle.std.proofs.Common.{refl, ap, ◌∙◌}
 use Rattle.thr_syntax.specs.Canon.{canon}
 use Rattle.thr_top.specs.Answers.{MakeAnswers, wrote, not_made}
-use Rattle.thr_top.proofs.Endings.{gives-no-memory}
+use Rattle.thr_endings.proofs.Endings.{gives-no-memory}
 use Rattle.thr_top.proofs.make.make.Goals as goal
 
 pub returns-in-Ok-print-clause-ends : goal.returns-in-Ok-print-clause-ends

@@ -4,7 +4,8 @@ use Rattle.thr_text.specs.declared.fault.ParseFault.TheVariants.{Refused}
 use Rattle.thr_text.specs.Reading.{faults}
 use Rattle.thr_grammar.specs.Parsing.{IsFirstStated}
 use Rattle.thr_top.specs.Answers.{RunAnswers}
-use Rattle.thr_top.proofs.Endings.{ends-no-memory, no-memory-run, run-refused}
+use Rattle.thr_endings.proofs.Endings.{ends-no-memory}
+use Rattle.thr_top.proofs.Endings.{no-memory-run, run-refused}
 use Rattle.thr_top.proofs.top.run_input.Goals as goal
 
 pub returns-in-Ok-clause-ends : goal.returns-in-Ok-clause-ends

@@ -1,6 +1,8 @@
 use Rattle.std.proofs.Common.{ap, refl, Err, arith}
-use Rattle.thr_top.specs.Answers.{RunAnswers, Ends, answered, not_run, too_long}
-use Rattle.thr_top.proofs.Endings.{ends-no-memory, no-memory-run, told-all, told-any, told-long, runs-well}
+use Rattle.thr_endings.specs.Endings.{Ends, answered}
+use Rattle.thr_top.specs.Answers.{RunAnswers, not_run, too_long, max_script}
+use Rattle.thr_endings.proofs.Endings.{ends-no-memory, told-all, told-any, told-long}
+use Rattle.thr_top.proofs.Endings.{no-memory-run, runs-well}
 use Rattle.thr_top.proofs.top.run_on.Goals as goal
 
 pub returns-in-Ok-clause-run : goal.returns-in-Ok-clause-run
@@ -13,11 +15,11 @@ returns-in-Ok-clause-complete g c =
 
 pub returns-in-Err-TooLong-clause-run : goal.returns-in-Err-TooLong-clause-run
 returns-in-Err-TooLong-clause-run g c =
-    told-long _ _ _ (c.in-Err-TooLong.ensures.long (ap Err c.in-Err-TooLong.field-0-is)) (λ input long. answered _ _ (not_run (too_long long refl refl)) c.give.ensures.written)
+    told-long max_script _ _ _ (c.in-Err-TooLong.ensures.long (ap Err c.in-Err-TooLong.field-0-is)) (λ input long. answered _ _ (not_run (too_long long refl refl)) c.give.ensures.written)
 
 pub returns-in-Err-NoMemory-clause-run : goal.returns-in-Err-NoMemory-clause-run
 returns-in-Err-NoMemory-clause-run g c = told-any _ _ (λ input. ends-no-memory (RunAnswers c.args.workers input) _ (no-memory-run c.args.workers input))
 
 pub returns-in-Err-TooLong-clause-complete : goal.returns-in-Err-TooLong-clause-complete
 returns-in-Err-TooLong-clause-complete g c =
-    told-long _ _ _ (c.in-Err-TooLong.ensures.long (ap Err c.in-Err-TooLong.field-0-is)) (λ input long script read write. absurd (omega (arith, long, script.0)))
+    told-long max_script _ _ _ (c.in-Err-TooLong.ensures.long (ap Err c.in-Err-TooLong.field-0-is)) (λ input long script read write. absurd (omega (arith, long, script.0)))

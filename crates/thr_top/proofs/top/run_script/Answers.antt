@@ -1,8 +1,10 @@
 use Rattle.std.proofs.Common.{◌∙◌, ap, ℕ}
 use Rattle.thr_syntax.specs.declared.tree.Script.{Script}
 use Rattle.thr_text.specs.Journals.{text}
-use Rattle.thr_top.specs.Answers.{RunAnswers, answered, ran}
-use Rattle.thr_top.proofs.Endings.{ends-no-memory, no-memory-run}
+use Rattle.thr_endings.specs.Endings.{answered}
+use Rattle.thr_top.specs.Answers.{RunAnswers, ran}
+use Rattle.thr_endings.proofs.Endings.{ends-no-memory}
+use Rattle.thr_top.proofs.Endings.{no-memory-run}
 use Rattle.thr_top.proofs.top.run_script.Goals as goal
 
 pub returns-in_default-clause-ends : goal.returns-in_default-clause-ends

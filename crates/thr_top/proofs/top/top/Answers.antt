@@ -1,6 +1,7 @@
 use Rattle.std.proofs.Common.{ℕ, inr}
 use Rattle.std.specs.Prelude.{IfSome}
-use Rattle.thr_top.specs.Answers.{RunAnswers, TrialAnswers, Ends, Gives}
+use Rattle.thr_endings.specs.Endings.{Ends, Gives}
+use Rattle.thr_top.specs.Answers.{RunAnswers, TrialAnswers}
 use Rattle.thr_top.proofs.Endings.{for-its-number, for-its-trial}
 use Rattle.thr_top.proofs.top.top.Goals as goal
 

@@ -3,7 +3,8 @@ use Rattle.thr_syntax.specs.declared.tree.Script.{Script}
 use Rattle.thr_text.specs.Reading.{Formed}
 use Rattle.thr_top.specs.Answers.{TrialAnswers, not_tried, trial_workers}
 use Rattle.thr_workers.specs.Runs.{IsOver}
-use Rattle.thr_top.proofs.Endings.{gives-no-memory, tried_by}
+use Rattle.thr_endings.proofs.Endings.{gives-no-memory}
+use Rattle.thr_top.proofs.Endings.{tried_by}
 use Rattle.thr_top.proofs.trial.trial.Goals as goal
 
 pub returns-in_default-clause-ends : goal.returns-in_default-clause-ends

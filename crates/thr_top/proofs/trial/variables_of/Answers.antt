@@ -5,7 +5,7 @@ use Rattle.std.specs.Prelude.{string_bytes}
 use Rattle.std.specs.Fmt.{signed_decimal}
 use Rattle.thr_model.specs.States.{shared_values}
 use Rattle.thr_verdict.specs.Made.{total, caught}
-use Rattle.thr_top.specs.Answers.{one_line}
+use Rattle.thr_endings.specs.Endings.{one_line}
 use Rattle.thr_top.proofs.Endings.{variables_told}
 use Rattle.thr_top.proofs.trial.variables_of.Goals as goal
 

@@ -1,0 +1,25 @@
+use Rattle.std.proofs.Common.{ap, refl, Err, arith}
+use Rattle.thr_endings.specs.Endings.{Ends, answered}
+use Rattle.thr_endings.proofs.Endings.{ends-no-memory, told-all, told-any, told-long, finishes-well}
+use Rattle.thr_top.specs.Answers.{CheckAnswers, not_checked, too_long, max_script}
+use Rattle.thr_top.proofs.Endings.{no-memory-check}
+use Rattle.thr_top.proofs.check.check_on.Goals as goal
+
+pub returns-in-Ok-clause-check : goal.returns-in-Ok-clause-check
+returns-in-Ok-clause-check g c =
+    told-all _ _ _ (λ input. Ends (CheckAnswers input) (g.K.Sink.held c.args.sink.now) (g.K.Sink.held c.check_input.new.sink) c.check_input.result.0) c.in-Ok.ensures.whole (rw c.as_slice.ensures.value at c.check_input.ensures.ends)
+
+pub returns-in-Ok-clause-complete : goal.returns-in-Ok-clause-complete
+returns-in-Ok-clause-complete g c =
+    told-all _ _ _ _ c.in-Ok.ensures.whole (λ script read write. finishes-well _ 0 (rw c.as_slice.ensures.value at c.check_input.ensures.complete script) (λ four. write (c.check_input.ensures.write four)))
+
+pub returns-in-Err-TooLong-clause-check : goal.returns-in-Err-TooLong-clause-check
+returns-in-Err-TooLong-clause-check g c =
+    told-long max_script _ _ _ (c.in-Err-TooLong.ensures.long (ap Err c.in-Err-TooLong.field-0-is)) (λ input long. answered _ _ (not_checked (too_long long refl refl)) c.give.ensures.written)
+
+pub returns-in-Err-NoMemory-clause-check : goal.returns-in-Err-NoMemory-clause-check
+returns-in-Err-NoMemory-clause-check g c = told-any _ _ (λ input. ends-no-memory (CheckAnswers input) _ (no-memory-check input))
+
+pub returns-in-Err-TooLong-clause-complete : goal.returns-in-Err-TooLong-clause-complete
+returns-in-Err-TooLong-clause-complete g c =
+    told-long max_script _ _ _ (c.in-Err-TooLong.ensures.long (ap Err c.in-Err-TooLong.field-0-is)) (λ input long script read write. absurd (omega (arith, long, script.0)))
