@@ -1,4 +1,5 @@
 //! By crate.
 
+mod journals;
 mod made;
 mod top;

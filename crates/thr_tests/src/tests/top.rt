@@ -48,7 +48,7 @@ const THREE: &[u8] =
     b"dcethr 1\nroutine w a\nsay a\nend\nroutine main a\nlocal t\npthread_create t default w 1\npthread_create t default w 2\npthread_create t default w 3\nend\n";
 
 /// The words, parted by spaces, the input, and the status and the text that they give.
-const CASES: [(&str, &[u8], u8, &[u8]); 59] = [
+const CASES: [(&str, &[u8], u8, &[u8]); 60] = [
     ("run 1", SEVEN, 0, SEVEN_JOURNAL),
     ("run 1", MANY, 0, MANY_JOURNAL),
     ("run 1", NONE_SAID, 0, NONE_SAID_JOURNAL),
@@ -316,6 +316,7 @@ const CASES: [(&str, &[u8], u8, &[u8]); 59] = [
     ("run 17", SEVEN, 1, USAGE),
     ("run 1 1", SEVEN, 1, USAGE),
     ("check x", SEVEN, 1, USAGE),
+    ("report x", SEVEN_JOURNAL, 1, USAGE),
     ("verify", SEVEN, 1, USAGE),
 ];
 
