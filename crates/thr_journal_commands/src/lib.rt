@@ -1,7 +1,10 @@
 //! The commands that read a journal.
 #![tactic(auto)]
 
+mod answering;
+pub mod command;
 mod refusing;
 mod reporting;
+mod verifying;
 
-pub use reporting::report_on;
+pub use answering::on_journal;

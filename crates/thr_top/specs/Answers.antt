@@ -38,6 +38,9 @@ IsCheck words = words ≡ codes "check" ∷ []
 abbrev pub IsReport : List (List ℕ) → Type 0
 IsReport words = words ≡ codes "report" ∷ []
 
+abbrev pub IsVerify : List (List ℕ) → Type 0
+IsVerify words = words ≡ codes "verify" ∷ []
+
 -- The words ask to make the script of a number of 32 bits, for so many workers, from 1 to 64.
 pub record IsMake (words : List (List ℕ)) (number workers : ℕ) : Type 0 where
   pub fits : number < 2 ^ 32
@@ -64,17 +67,17 @@ AsksTrial words = (number : ℕ) × (workers : ℕ) × IsTrial words number work
 abbrev pub NeedsWorkers : List (List ℕ) → Type 0
 NeedsWorkers words = AsksRun words ⊎ AsksTrial words
 
+-- The words have a form that is built and reads a journal.
+abbrev pub ReadsJournal : List (List ℕ) → Type 0
+ReadsJournal words = IsVerify words ⊎ IsReport words
+
 -- The words have a form that is built and needs no workers.
 abbrev pub IsPlain : List (List ℕ) → Type 0
-IsPlain words = IsCheck words ⊎ (IsReport words ⊎ AsksMake words)
+IsPlain words = IsCheck words ⊎ (ReadsJournal words ⊎ AsksMake words)
 
 -- The words have a form that is built and reads a script.
 abbrev pub ReadsScript : List (List ℕ) → Type 0
 ReadsScript words = AsksRun words ⊎ IsCheck words
-
--- The words have a form that is built and reads a journal.
-abbrev pub ReadsJournal : List (List ℕ) → Type 0
-ReadsJournal words = IsReport words
 
 -- The words have a form that is built.
 abbrev pub IsCommand : List (List ℕ) → Type 0

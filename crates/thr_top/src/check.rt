@@ -6,16 +6,19 @@ ghost use Rattle.thr_wire.specs.Causes.{Rose};
 ghost use Rattle.thr_text.specs.Faults.{first_of};
 ghost use Rattle.thr_text.specs.Reading.{Reads, faults};
 ghost use Rattle.thr_endings.specs.Endings.{Ends, Gives, Writes};
-ghost use Rattle.thr_journal_commands.specs.Answers.{IsJournal, ReportAnswers, max_journal};
-ghost use Rattle.thr_top.specs.Answers.{NeedsWorkers, AsksMake, IsCheck, IsReport, IsMake, IsPlain, IsScript, ReadsJournal, MakeAnswers, Refuses, CheckAnswers, max_script, usage};
+ghost use Rattle.thr_syntax.specs.declared.journal.Journal.{Journal};
+ghost use Rattle.thr_journal_commands.specs.declared.command.JournalCommand.TheVariants as journal;
+ghost use Rattle.thr_journal_commands.specs.Answers.{IsDone, IsGiven, ReportAnswers, VerifyAnswers, max_journal};
+ghost use Rattle.thr_top.specs.Answers.{NeedsWorkers, AsksMake, IsCheck, IsReport, IsVerify, IsMake, IsPlain, IsScript, ReadsJournal, MakeAnswers, Refuses, CheckAnswers, max_script, usage};
 
 use crate::answer::refusal;
-use crate::command::{Word, asks_check, asks_report, made_of};
+use crate::command::{Word, asks_check, asks_report, asks_verify, made_of};
 use crate::make::make;
 use std::alloc::Global;
 use thr_endings::{Status, give};
 use thr_grammar::{parse, print_with_room};
-use thr_journal_commands::report_on;
+use thr_journal_commands::command::JournalCommand;
+use thr_journal_commands::on_journal;
 use thr_syntax::tree::Script;
 use thr_text::fault::{ParseFault, Place};
 use thr_wire::fault::WireFault;
@@ -108,7 +111,7 @@ pub fn plain_top<S: Source, K: Sink>(
     ensures at_most { IsCheck words.now → TookAtMost (max_script + 1) (S.left source.old) (S.left source.new) }
     ensures taken { IsCheck words.now → result.0 ≢ 3 → result.0 ≢ 5 → IfSome (S.left source.old) (λ input. (S.left source.new ≡ Some []) ⊎ TookMoreThan max_script input (S.left source.new)) }
 
-    // So does `report`, with the limit of a journal.
+    // So do `verify` and `report`, with the limit of a journal.
     ensures journal_at_most { ReadsJournal words.now → TookAtMost (max_journal + 1) (S.left source.old) (S.left source.new) }
     ensures journal_taken { ReadsJournal words.now → result.0 ≢ 3 → result.0 ≢ 5 → IfSome (S.left source.old) (λ input. (S.left source.new ≡ Some []) ⊎ TookMoreThan max_journal input (S.left source.new)) }
 
@@ -119,11 +122,16 @@ pub fn plain_top<S: Source, K: Sink>(
         IsScript input → ¬ (Rose (S.faults source.old) (S.faults source.new)) → ¬ (Rose (K.faults sink.old) (K.faults sink.new))
         → (result.0 ≡ 0) ⊎ (result.0 ≡ 5)) }
 
-    // `report` writes the counts of a journal, or what stands in its place. Where no device has a fault, the text of a journal
-    // gives 0, or 5 for want of memory.
+    // `verify` writes the verdict on a journal, and `report` its counts, or what stands in their place. A history that is called
+    // legal meets the laws. Where no device has a fault, the text of a journal gives 0, or 5 for want of memory, and to `verify` 8
+    // exactly where its history isn't legal.
+    ensures verify { IsVerify words.now → IfSome (S.left source.old) (λ input. Ends (VerifyAnswers input) (K.held sink.old) (K.held sink.new) result.0) }
+    ensures verify_complete { IsVerify words.now → IfSome (S.left source.old) (λ input. (j : Journal) →
+        IsGiven input j → ¬ (Rose (S.faults source.old) (S.faults source.new)) → ¬ (Rose (K.faults sink.old) (K.faults sink.new))
+        → IsDone journal.Verify j result.0) }
     ensures report { IsReport words.now → IfSome (S.left source.old) (λ input. Ends (ReportAnswers input) (K.held sink.old) (K.held sink.new) result.0) }
-    ensures report_complete { IsReport words.now → IfSome (S.left source.old) (λ input.
-        IsJournal input → ¬ (Rose (S.faults source.old) (S.faults source.new)) → ¬ (Rose (K.faults sink.old) (K.faults sink.new))
+    ensures report_complete { IsReport words.now → IfSome (S.left source.old) (λ input. (j : Journal) →
+        IsGiven input j → ¬ (Rose (S.faults source.old) (S.faults source.new)) → ¬ (Rose (K.faults sink.old) (K.faults sink.new))
         → (result.0 ≡ 0) ⊎ (result.0 ≡ 5)) }
 
     // `make` writes the canonical text of the script that is made, or nothing for want of memory.
@@ -135,7 +143,8 @@ pub fn plain_top<S: Source, K: Sink>(
     ensures write { result.0 ≡ 4 → Rose (K.faults sink.old) (K.faults sink.new) }
     ensures quiet_source { result.0 ≢ 3 → S.faults source.new ≡ S.faults source.old }
     ensures quiet_sink { result.0 ≢ 4 → K.faults sink.new ≡ K.faults sink.old }
-    ensures known { result.0 ≤ 5 }
+    ensures known { (result.0 ≤ 8) × (result.0 ≢ 6) × (result.0 ≢ 7) }
+    ensures only_verify { result.0 ≡ 8 → IsVerify words.now }
 {
     if let Some((number, workers)) = made_of(words) {
         return make(alloc, number, workers, sink);
@@ -143,8 +152,11 @@ pub fn plain_top<S: Source, K: Sink>(
     if asks_check(words) {
         return check_on(alloc, source, sink);
     }
+    if asks_verify(words) {
+        return on_journal(alloc, JournalCommand::Verify, source, sink);
+    }
     if asks_report(words) {
-        return report_on(alloc, source, sink);
+        return on_journal(alloc, JournalCommand::Report, source, sink);
     }
     give(sink, 1, USAGE)
 }

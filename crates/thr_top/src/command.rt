@@ -2,7 +2,7 @@
 
 ghost use Rattle.std.specs.Prelude.{◌≡◌, ◌≢◌, ◌<◌, ◌≤◌, ◌^◌, ◌↔◌, ℕ, IsTrue, MatchOption, string_bytes};
 ghost use Rattle.std.specs.Fmt.{decimal};
-ghost use Rattle.thr_top.specs.Answers.{IsRun, AsksRun, IsMake, AsksMake, IsTrial, AsksTrial, NeedsWorkers, IsCheck, IsReport};
+ghost use Rattle.thr_top.specs.Answers.{IsRun, AsksRun, IsMake, AsksMake, IsTrial, AsksTrial, NeedsWorkers, IsCheck, IsReport, IsVerify};
 
 use itoa::Buffer;
 use std::marker::Model;
@@ -123,6 +123,16 @@ pub fn asks_check(words: &[Word]) -> bool
 {
     match words {
         [check] => check.is("check"),
+        _ => false,
+    }
+}
+
+/// Whether the words ask for the verdict on a journal.
+pub fn asks_verify(words: &[Word]) -> bool
+    ensures { IsTrue result ↔ IsVerify words.now }
+{
+    match words {
+        [verify] => verify.is("verify"),
         _ => false,
     }
 }

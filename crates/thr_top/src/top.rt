@@ -5,8 +5,10 @@ ghost use Rattle.thr_wire.specs.Bytes.{TookAtMost, TookMoreThan};
 ghost use Rattle.thr_wire.specs.Causes.{Rose};
 ghost use Rattle.thr_text.specs.Reading.{Formed, Reads};
 ghost use Rattle.thr_endings.specs.Endings.{Ends, Gives, Writes};
-ghost use Rattle.thr_journal_commands.specs.Answers.{IsJournal, ReportAnswers, max_journal};
-ghost use Rattle.thr_top.specs.Answers.{status_of, IsRun, AsksRun, IsMake, AsksMake, IsTrial, AsksTrial, NeedsWorkers, IsCheck, IsReport, IsCommand, ReadsJournal, ReadsScript, IsScript, IsRunStatus, RunAnswers, CheckAnswers, MakeAnswers, TrialAnswers, max_script, usage};
+ghost use Rattle.thr_syntax.specs.declared.journal.Journal.{Journal};
+ghost use Rattle.thr_journal_commands.specs.declared.command.JournalCommand.TheVariants as journal;
+ghost use Rattle.thr_journal_commands.specs.Answers.{IsDone, IsGiven, ReportAnswers, VerifyAnswers, max_journal};
+ghost use Rattle.thr_top.specs.Answers.{status_of, IsRun, AsksRun, IsMake, AsksMake, IsTrial, AsksTrial, NeedsWorkers, IsCheck, IsReport, IsVerify, IsCommand, ReadsJournal, ReadsScript, IsScript, IsRunStatus, RunAnswers, CheckAnswers, MakeAnswers, TrialAnswers, max_script, usage};
 
 use crate::answer::status_of;
 use crate::check::{MAX_SCRIPT, plain_top, refuse};
@@ -128,7 +130,7 @@ pub fn top<S: Source, K: Sink, R: Threads + Wait + Sync, G: Gate + Sync>(
     ensures at_most { ReadsScript words.now → TookAtMost (max_script + 1) (S.left source.old) (S.left source.new) }
     ensures taken { ReadsScript words.now → result.0 ≢ 3 → result.0 ≢ 5 → IfSome (S.left source.old) (λ input. (S.left source.new ≡ Some []) ⊎ TookMoreThan max_script input (S.left source.new)) }
 
-    // So does `report`, with the limit of a journal.
+    // So do `verify` and `report`, with the limit of a journal.
     ensures journal_at_most { ReadsJournal words.now → TookAtMost (max_journal + 1) (S.left source.old) (S.left source.new) }
     ensures journal_taken { ReadsJournal words.now → result.0 ≢ 3 → result.0 ≢ 5 → IfSome (S.left source.old) (λ input. (S.left source.new ≡ Some []) ⊎ TookMoreThan max_journal input (S.left source.new)) }
 
@@ -141,7 +143,9 @@ pub fn top<S: Source, K: Sink, R: Threads + Wait + Sync, G: Gate + Sync>(
     // `check` writes the canonical text of the script, or what stands in its place.
     ensures check { IsCheck words.now → IfSome (S.left source.old) (λ input. Ends (CheckAnswers input) (K.held sink.old) (K.held sink.new) result.0) }
 
-    // `report` writes the counts of a journal, or what stands in its place.
+    // `verify` writes the verdict on a journal, and `report` its counts, or what stands in their place. A history that is called
+    // legal meets the laws.
+    ensures verify { IsVerify words.now → IfSome (S.left source.old) (λ input. Ends (VerifyAnswers input) (K.held sink.old) (K.held sink.new) result.0) }
     ensures report { IsReport words.now → IfSome (S.left source.old) (λ input. Ends (ReportAnswers input) (K.held sink.old) (K.held sink.new) result.0) }
 
     // `make` writes the canonical text of the script that is made, or nothing for want of memory.
@@ -151,16 +155,20 @@ pub fn top<S: Source, K: Sink, R: Threads + Wait + Sync, G: Gate + Sync>(
     // memory.
     ensures trial { (number : ℕ) → (workers : ℕ) → IsTrial words.now number workers → Gives (TrialAnswers number workers) (K.held sink.old) (K.held sink.new) result.0 }
 
-    // Where no device has a fault, the text of a script gives 0, or 5 for want of memory, and so do that of a journal to `report`,
-    // and `make`. To `run`, and of a trial, 6 comes where nothing can go on, and 7 where the lines come to the limit.
+    // Where no device has a fault, the text of a script gives 0, or 5 for want of memory, and so do that of a journal, and `make`.
+    // To `run`, and of a trial, 6 comes where nothing can go on, and 7 where the lines come to the limit; to `verify` 8 comes
+    // exactly where the journal's history isn't legal.
     ensures run_complete { AsksRun words.now → IfSome (S.left source.old) (λ input.
         IsScript input → ¬ (Rose (S.faults source.old) (S.faults source.new)) → ¬ (Rose (K.faults sink.old) (K.faults sink.new))
         → IsRunStatus result.0) }
     ensures check_complete { IsCheck words.now → IfSome (S.left source.old) (λ input.
         IsScript input → ¬ (Rose (S.faults source.old) (S.faults source.new)) → ¬ (Rose (K.faults sink.old) (K.faults sink.new))
         → (result.0 ≡ 0) ⊎ (result.0 ≡ 5)) }
-    ensures report_complete { IsReport words.now → IfSome (S.left source.old) (λ input.
-        IsJournal input → ¬ (Rose (S.faults source.old) (S.faults source.new)) → ¬ (Rose (K.faults sink.old) (K.faults sink.new))
+    ensures verify_complete { IsVerify words.now → IfSome (S.left source.old) (λ input. (j : Journal) →
+        IsGiven input j → ¬ (Rose (S.faults source.old) (S.faults source.new)) → ¬ (Rose (K.faults sink.old) (K.faults sink.new))
+        → IsDone journal.Verify j result.0) }
+    ensures report_complete { IsReport words.now → IfSome (S.left source.old) (λ input. (j : Journal) →
+        IsGiven input j → ¬ (Rose (S.faults source.old) (S.faults source.new)) → ¬ (Rose (K.faults sink.old) (K.faults sink.new))
         → (result.0 ≡ 0) ⊎ (result.0 ≡ 5)) }
     ensures trial_complete { AsksTrial words.now → ¬ (Rose (K.faults sink.old) (K.faults sink.new)) → IsRunStatus result.0 }
     ensures make_complete { AsksMake words.now → ¬ (Rose (K.faults sink.old) (K.faults sink.new)) → (result.0 ≡ 0) ⊎ (result.0 ≡ 5) }
@@ -170,7 +178,8 @@ pub fn top<S: Source, K: Sink, R: Threads + Wait + Sync, G: Gate + Sync>(
     ensures write { result.0 ≡ 4 → Rose (K.faults sink.old) (K.faults sink.new) }
     ensures quiet_source { result.0 ≢ 3 → S.faults source.new ≡ S.faults source.old }
     ensures quiet_sink { result.0 ≢ 4 → K.faults sink.new ≡ K.faults sink.old }
-    ensures known { result.0 ≤ 7 }
+    ensures known { result.0 ≤ 8 }
+    ensures only_verify { result.0 ≡ 8 → IsVerify words.now }
     ensures only_run { (result.0 ≡ 6) ⊎ (result.0 ≡ 7) → NeedsWorkers words.now }
 {
     match workers_of(words) {

@@ -1,4 +1,4 @@
-//! Tests of `report`: the worked report, what a text is refused for, and a run whose journal is read again.
+//! Tests of `report` and `verify`: the worked reports and verdicts, what a text is refused for, and a run whose journal is read again.
 
 use super::top::words_of;
 use std::alloc::{AllocError, Global};
@@ -34,7 +34,30 @@ const CASES: &str = "\
 2|report|refused J5 line 9;|dcethr journal 1;workers 1;script 4;dcethr 1;routine main a;say 7;end;history;2 p0 run t1;2 t1 say 7;3 t1 end 0;stop finished;
 2|report|refused J6 line 13;|dcethr journal 1;workers 1;script 4;dcethr 1;routine main a;say 7;end;history;1 p0 run t1;2 t1 say 7;3 t1 end 0;stop finished;x;
 2|report|refused J7 line 9;|dcethr journal 1;workers 1;script 4;dcethr 1;routine main a;say 7;end;history;
-2|report|refused J7 line 12;|dcethr journal 1;workers 1;script 4;dcethr 1;routine main a;say 7;end;history;1 p0 run t1;2 t1 say 7;3 t1 end 0;";
+2|report|refused J7 line 12;|dcethr journal 1;workers 1;script 4;dcethr 1;routine main a;say 7;end;history;1 p0 run t1;2 t1 say 7;3 t1 end 0;
+# legal histories, and one that want of memory ended
+0|verify|legal;|dcethr journal 1;workers 1;script 4;dcethr 1;routine main a;say 7;end;history;1 p0 run t1;2 t1 say 7;3 t1 end 0;stop finished;
+0|verify|legal;|dcethr journal 1;workers 1;script 24;dcethr 1;mutex m;cond c;shared t 0;routine waiter a;pthread_mutex_lock m;try;pthread_cond_wait c m;finally;pthread_mutex_unlock m;endtry;end;routine main a;local v;pthread_mutex_init m default;pthread_cond_init c;pthread_create t default waiter 0;pthread_yield;pthread_mutex_lock m;pthread_cancel t;pthread_mutex_unlock m;pthread_join t v;say v;end;history;1 p0 run t1;2 t1 pthread_mutex_init m default = ok;3 t1 pthread_cond_init c = ok;4 t1 pthread_create default waiter 0 = 2;5 t1 pthread_yield = ok;6 p0 run t2;7 t2 pthread_mutex_lock m = ok;8 t2 try 1 7;9 t2 pthread_cond_wait c m = blocks;10 p0 run t1;11 t1 pthread_mutex_lock m = ok;12 t1 pthread_cancel 2 = wakes;13 t1 pthread_mutex_unlock m = ok;14 t2 gift m;15 t1 pthread_join 2 = blocks;16 p0 run t2;17 t2 deliver 1 8;18 t2 finally 1 1;19 t2 pthread_mutex_unlock m = ok;20 t2 endfin 1;21 t2 bottom 1 -1;22 t2 end -1;23 p0 run t1;24 t1 ret = -1;25 t1 say -1;26 t1 end 0;stop finished;
+0|verify|legal;|dcethr journal 1;workers 1;script 4;dcethr 1;routine main a;say 7;end;history;1 p0 run t1;stop memory;
+0|verify|legal;|dcethr journal 1;workers 1;script 4;dcethr 1;routine main a;say 7;end;history;stop memory;
+# histories that are none of the machine
+8|verify|illegal line 10;has 2 t1 end 0;should 2 t1 say 7;|dcethr journal 1;workers 1;script 4;dcethr 1;routine main a;say 7;end;history;1 p0 run t1;2 t1 end 0;3 t1 say 7;stop finished;
+8|verify|illegal line 9;has 1 t1 say 7;should nothing;|dcethr journal 1;workers 1;script 4;dcethr 1;routine main a;say 7;end;history;1 t1 say 7;2 t1 say 7;3 t1 end 0;stop finished;
+8|verify|illegal line 12;has stop limit;should stop finished;|dcethr journal 1;workers 1;script 4;dcethr 1;routine main a;say 7;end;history;1 p0 run t1;2 t1 say 7;3 t1 end 0;stop limit;
+8|verify|illegal line 12;has stop memory;should stop finished;|dcethr journal 1;workers 1;script 4;dcethr 1;routine main a;say 7;end;history;1 p0 run t1;2 t1 say 7;3 t1 end 0;stop memory;
+# texts that are no journals, to `verify`
+2|verify|refused J1 line 1;|
+2|verify|refused J1 line 2;|dcethr journal 1;
+2|verify|refused J1 line 2;|dcethr journal 1;workers 17;script 4;dcethr 1;routine main a;say 7;end;history;1 p0 run t1;2 t1 say 7;3 t1 end 0;stop finished;
+2|verify|refused J2 line 3;|dcethr journal 1;workers 1;script 4;
+2|verify|refused J3 line 4;|dcethr journal 1;workers 1;script 4;dcethr 1;routine main a;say  7;end;history;1 p0 run t1;2 t1 say 7;3 t1 end 0;stop finished;
+2|verify|refused J3 line 6;|dcethr journal 1;workers 1;script 4;dcethr 1;routine main a;say x;end;history;1 p0 run t1;2 t1 say 7;3 t1 end 0;stop finished;
+2|verify|refused J4 line 12;|dcethr journal 1;workers 1;script 4;dcethr 1;routine main a;say 7;end;history;1 p0 run t1;2 t1 say 7;3 t1 end 0;stop finishe
+2|verify|refused J4 line 10;|dcethr journal 1;workers 1;script 4;dcethr 1;routine main a;say 7;end;history;1 p0 run t1;2 t4294967296 say 7;3 t1 end 0;stop finished;
+2|verify|refused J5 line 9;|dcethr journal 1;workers 1;script 4;dcethr 1;routine main a;say 7;end;history;2 p0 run t1;2 t1 say 7;3 t1 end 0;stop finished;
+2|verify|refused J6 line 13;|dcethr journal 1;workers 1;script 4;dcethr 1;routine main a;say 7;end;history;1 p0 run t1;2 t1 say 7;3 t1 end 0;stop finished;x;
+2|verify|refused J7 line 9;|dcethr journal 1;workers 1;script 4;dcethr 1;routine main a;say 7;end;history;
+2|verify|refused J7 line 12;|dcethr journal 1;workers 1;script 4;dcethr 1;routine main a;say 7;end;history;1 p0 run t1;2 t1 say 7;3 t1 end 0;";
 
 /// Two threads fill a buffer of two places and two empty it.
 const BUFFER: &str =
@@ -81,7 +104,7 @@ fn is_right<R: Threads + Wait + Sync>(rt: &R, alloc: Global, row: &str) -> Resul
 }
 
 #[test]
-fn journals_are_reported_on(rt: HostRuntime) -> Result<(), Fail> {
+fn journals_are_reported_on_and_judged(rt: HostRuntime) -> Result<(), Fail> {
     for row in CASES.split('\n') {
         if !row.starts_with("# ") {
             assert!(rt; is_right(&rt, rt.alloc(), row)?, "{row}");
@@ -90,14 +113,18 @@ fn journals_are_reported_on(rt: HostRuntime) -> Result<(), Fail> {
     Ok(())
 }
 
-/// The journal of a run by four workers is reported on.
+/// The journal of a run by four workers is reported on, and its history is legal.
 #[test]
 fn what_a_run_writes_is_read_again(rt: HostRuntime) -> Result<(), Fail> {
     let script = text_of(rt.alloc(), BUFFER)?;
     let (ran, journal) = answer_of(&rt, rt.alloc(), "run 4", script)?;
     assert_eq!(rt; ran, 0);
+    let again = Vec::from_slice(rt.alloc(), journal.as_slice())?;
     let (told, text) = answer_of(&rt, rt.alloc(), "report", journal)?;
     assert_eq!(rt; told, 0);
     assert!(rt; text.as_slice().ends_with(b"\nstop finished\n"));
+    let (judged, verdict) = answer_of(&rt, rt.alloc(), "verify", again)?;
+    assert_eq!(rt; judged, 0);
+    assert_eq!(rt; verdict.as_slice(), b"legal\n".as_slice());
     Ok(())
 }

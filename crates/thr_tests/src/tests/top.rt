@@ -317,7 +317,7 @@ const CASES: [(&str, &[u8], u8, &[u8]); 60] = [
     ("run 1 1", SEVEN, 1, USAGE),
     ("check x", SEVEN, 1, USAGE),
     ("report x", SEVEN_JOURNAL, 1, USAGE),
-    ("verify", SEVEN, 1, USAGE),
+    ("verify x", SEVEN_JOURNAL, 1, USAGE),
 ];
 
 pub(super) fn words_of(alloc: Global, line: &str) -> Result<Vec<Word>, Fail> {

@@ -2,7 +2,7 @@ use Rattle.std.proofs.Common.{refl, ◌∙◌}
 use Rattle.thr_endings.specs.Endings.{answered}
 use Rattle.thr_endings.proofs.Endings.{ends-no-memory}
 use Rattle.thr_journal_commands.specs.Answers.{ReportAnswers, reported}
-use Rattle.thr_journal_commands.proofs.Reported.{no-memory-report, report-told}
+use Rattle.thr_journal_commands.proofs.Told.{no-memory-report, report-told}
 use Rattle.thr_journal_commands.proofs.reporting.give_report.Goals as goal
 
 pub returns-in_default-clause-ends : goal.returns-in_default-clause-ends
