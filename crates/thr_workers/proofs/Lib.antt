@@ -1,3 +1,4 @@
 mod Crossing
+mod Holds
 mod Laws
 mod Stops

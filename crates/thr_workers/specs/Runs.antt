@@ -1,32 +1,16 @@
 -- What workers keep of a run (docs/theorems.md, "Workers").
-use Rattle.std.specs.Prelude.{◌≡◌, ◌≢◌, ℕ, List, ◌⊎◌, Bool, true, IsSome, Some}
+use Rattle.std.specs.Prelude.{◌≡◌, ◌≢◌, ℕ, List, Some}
 use Rattle.thr_values.specs.declared.event.Event.{Event}
 use Rattle.thr_values.specs.declared.event.Stop.{Stop}
 use Rattle.thr_values.specs.declared.event.Stop.TheVariants as stops
 use Rattle.thr_syntax.specs.declared.tree.Script.{Script}
 use Rattle.thr_model.specs.Histories.{History}
 use Rattle.thr_machine.specs.Views.{BookView}
-use Rattle.thr_machine.specs.Books.{Makes}
 
 -- The book is one of this script, with so many processors.
 pub record IsOver (b : BookView) (s : Script) (n : ℕ) : Type 0 where
   pub script : b.script ≡ s
   pub workers : b.workers ≡ n
-
--- No event was made between these books.
-pub record SameRun (old new : BookView) : Type 0 where
-  pub state : new.state ≡ old.state
-  pub entries : new.entries ≡ old.entries
-  pub turns : new.turns ≡ old.turns
-
--- At most one event was made between these books, or the stop.
-pub data IsOneEvent (old new : BookView) : Type 0 where
-  none : SameRun old new → IsOneEvent old new
-  one : (ready : BookView) (e : Event) → SameRun old ready → Makes ready new e → IsOneEvent old new
-
--- A worker leaves: the book is stopped, or no memory was found.
-abbrev pub IsLeft : BookView → Bool → Type 0
-IsLeft b no_memory = IsSome b.stopped ⊎ (no_memory ≡ true)
 
 -- So many of the events of the book's history are turns.
 pub record HasTurns (b : BookView) (count : ℕ) : Type 0 where

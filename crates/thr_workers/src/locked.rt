@@ -1,12 +1,13 @@
 //! What lies under the lock: the book, and the total of the turns that were counted.
 
-ghost use Rattle.std.specs.Prelude.{◌≡◌, ◌+◌, ◌<◌, ◌⊎◌, true, false, IsSome, OnOk, OnErr, None, vec_len};
+ghost use Rattle.std.specs.Prelude.{◌≡◌, ◌+◌, ◌↔◌, true, false, IsSome, OnOk, OnErr, None, vec_len};
 ghost use Rattle.std.specs.Coded.{codes};
 ghost use Rattle.thr_syntax.specs.contracts.tree.Stmt as stmt;
 ghost use Rattle.thr_syntax.specs.contracts.expr.Expr as expr;
-ghost use Rattle.thr_parts.specs.Dispatch.{running};
+ghost use Rattle.thr_values.specs.declared.event.Event.TheVariants as event;
 ghost use Rattle.thr_machine.specs.Books.{IsOpen};
-ghost use Rattle.thr_workers.specs.Runs.{IsOver, HasCause, SameRun, IsOneEvent, IsLeft};
+ghost use Rattle.thr_workers.specs.Runs.{IsOver, HasCause};
+ghost use Rattle.thr_workers.specs.Holds.{GoesOn, Moves, IsStill, HasLeft, HasThread, HasMade, HasMoved, HasNothing, HasNoTurn};
 ghost use Rattle.thr_workers.specs.declared.locked.Found.TheVariants as found;
 
 use crate::count::{Count, Naming};
@@ -56,9 +57,9 @@ impl<N: Naming> Locked<N> {
 
     /// Makes the stop where one holds, and takes the memory for one event. The answer is whether an event may be made.
     fn opens(&mut self) -> bool
-        ensures open { result ≡ true → IsOpen self.new.book }
-        ensures left { result ≡ false → IsLeft self.new.book self.new.no_memory }
-        ensures same { SameRun self.old.book self.new.book }
+        ensures goes { result ≡ true → GoesOn self.old.book self.new.book }
+        ensures memory { result ≡ true → self.new.no_memory ≡ false }
+        ensures left { result ≡ false → HasLeft self.old.book self.new.book self.new.no_memory }
     {
         if self.no_memory || self.book.stopped().is_some() {
             return false;
@@ -74,11 +75,25 @@ impl<N: Naming> Locked<N> {
         true
     }
 
+    /// Makes a dispatch at the processor, or else a move of the clock. The answer is whether one of them is legal.
+    fn move_on(&mut self, p: u32) -> bool
+        requires open { IsOpen self.old.book }
+        ensures moves { result ≡ true → Moves p self.old.book self.new.book }
+        ensures still { result ≡ false → IsStill p self.old.book × (self.new.book ≡ self.old.book) }
+        ensures memory { self.new.no_memory ≡ self.old.no_memory }
+    {
+        if let Some(_taken) = self.book.dispatch(p) {
+            return true;
+        }
+        self.book.clock()
+    }
+
     /// Looks for a thread on the processor. Without one it makes a dispatch, or else a move of the clock.
     pub fn look(&mut self, p: u32) -> Found
-        ensures event { IsOneEvent self.old.book self.new.book }
-        ensures left { result ≡ found.Over → IsLeft self.new.book self.new.no_memory }
-        ensures thread { result ≡ found.Thread → IsSome (running self.new.book.state.rows p) }
+        ensures over { result ≡ found.Over ↔ HasLeft self.old.book self.new.book self.new.no_memory }
+        ensures thread { result ≡ found.Thread ↔ HasThread p self.old.book self.new.book self.new.no_memory }
+        ensures changed { result ≡ found.Changed ↔ HasMoved p self.old.book self.new.book }
+        ensures nothing { result ≡ found.Nothing ↔ HasNothing p self.old.book self.new.book self.new.no_memory }
     {
         if !self.opens() {
             return Found::Over;
@@ -86,10 +101,7 @@ impl<N: Naming> Locked<N> {
         if self.book.running(p).is_some() {
             return Found::Thread;
         }
-        if let Some(_taken) = self.book.dispatch(p) {
-            return Found::Changed;
-        }
-        if self.book.clock() {
+        if self.move_on(p) {
             return Found::Changed;
         }
         Found::Nothing
@@ -97,9 +109,9 @@ impl<N: Naming> Locked<N> {
 
     /// Makes a turn of the processor's thread and counts it, where the processor still has one. The answer is whether it did.
     pub fn commit(&mut self, p: u32, mine: &mut Count<N>) -> bool
-        ensures event { IsOneEvent self.old.book self.new.book }
-        ensures made { result ≡ true → mine.new.turns ≡ mine.old.turns + 1 }
-        ensures idle { result ≡ false → IsLeft self.new.book self.new.no_memory ⊎ (running self.new.book.state.rows p ≡ None) }
+        ensures made { result ≡ true ↔ HasMade self.old.book self.new.book (event.Turn p) }
+        ensures idle { result ≡ false ↔ HasNoTurn p self.old.book self.new.book self.new.no_memory }
+        ensures one { result ≡ true → mine.new.turns ≡ mine.old.turns + 1 }
         ensures counted { self.new.book.turns + mine.old.turns ≡ self.old.book.turns + mine.new.turns }
     {
         if !self.opens() {
