@@ -15,7 +15,7 @@ pub enum Who {
 
 /// What a line says, its fields in their order (docs/journal.md, "The lines"). Scopes and unwindings are numbered from 1
 /// in each thread, each by a count of its own.
-#[derive(Clone, Copy, Debug)]
+#[derive(Clone, Copy, Debug, PartialEq, Eq)]
 pub enum What {
     Run(Tid),
     Clock(i64),
@@ -56,7 +56,7 @@ pub enum What {
 }
 
 /// One numbered line of a journal without its number.
-#[derive(Clone, Copy, Debug)]
+#[derive(Clone, Copy, Debug, PartialEq, Eq)]
 pub struct Entry {
     pub who: Who,
     pub what: What,
