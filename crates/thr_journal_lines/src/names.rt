@@ -1,7 +1,6 @@
 //! The names of a script with what they are the names of.
 
 ghost use Rattle.std.specs.Prelude.{◌≡◌, ◌≤◌, ◌<◌, length, position, IfSome};
-ghost use Rattle.std.specs.List.{find};
 ghost use Rattle.std.specs.Option.{option_map};
 ghost use Rattle.std.specs.Map.{keys_of};
 ghost use Rattle.std.specs.Str.{bytes_eq};
@@ -40,25 +39,14 @@ fn place_in(known: &[Known], text: &[u8]) -> Option<usize>
     known.iter().position(|k| is_named(k, text))
 }
 
-/// The place of a name, the first at 0.
-fn place_of(known: &[Known], text: &[u8]) -> Option<usize>
-    ensures place { result ≡ position (bytes_eq text.now) (keys_of (entries_in known.now)) }
-    ensures within { IfSome result (λ p. p < length known.now) }
+/// The place of a name, the first at 0, and what it is the name of.
+fn found_in(known: &[Known], text: &[u8]) -> Option<(usize, Object)>
+    ensures place { option_map (λ x. x.0) result ≡ position (bytes_eq text.now) (keys_of (entries_in known.now)) }
+    ensures kind { option_map (λ x. x.1) result ≡ kind_in (entries_in known.now) text.now }
+    ensures within { IfSome result (λ x. x.0 < length known.now) }
 {
-    place_in(known, text)
-}
-
-fn kind_found(known: &[Known], text: &[u8]) -> Option<Object>
-    ensures { result ≡ option_map (λ k. k.kind) (find (λ k. bytes_eq text.now k.name) known.now) }
-{
-    known.iter().find(|k| is_named(k, text)).map(|k| k.kind)
-}
-
-/// What a name is the name of.
-fn kind_of(known: &[Known], text: &[u8]) -> Option<Object>
-    ensures { result ≡ kind_in (entries_in known.now) text.now }
-{
-    kind_found(known, text)
+    let place = place_in(known, text)?;
+    Some((place, known[place].kind))
 }
 
 /// The name with this text, where it is one of this kind.
@@ -66,10 +54,9 @@ pub(crate) fn name_in(known: &[Known], kind: Object, text: &[u8]) -> Option<Name
     requires { length known.now ≤ 65536 }
     ensures { result ≡ name_in (entries_in known.now) kind text.now }
 {
-    let found = kind_of(known, text)?;
+    let (place, found) = found_in(known, text)?;
     if !is_same(kind, found) {
         return None;
     }
-    let place = place_of(known, text)?;
     Some(NameId(place as u16))
 }
