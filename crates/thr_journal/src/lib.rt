@@ -2,6 +2,5 @@
 #![tactic(auto)]
 
 mod printing;
-mod words;
 
 pub use printing::{add_entry, add_stop, print};

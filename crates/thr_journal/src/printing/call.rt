@@ -4,13 +4,15 @@
 
 ghost use Rattle.std.specs.Prelude.{◌≡◌, ◌++◌, ◌∷◌, [], OnOk, map, slice_get, unwrap_or, codes};
 ghost use Rattle.thr_values.specs.Words.{call_word};
-ghost use Rattle.thr_text.specs.Journals.{arg_words, args_words, reply_word};
+ghost use Rattle.thr_text.specs.Journals.{arg_words, args_words, fixed_words, reply_word};
+ghost use Rattle.thr_text.specs.Slots.{absent_word, choice_words};
 ghost use Rattle.thr_grammar.specs.Printing.{spaced};
 
 use crate::printing::word::{add_name, add_number, add_word};
-use crate::words::{fixed_words, reply_text};
 use std::alloc::AllocError;
-use thr_text::head::Head;
+use thr_journals::texts::{absent_text, choice_texts, reply_text};
+use thr_text::head::{Choice, Head};
+use thr_text::object::Object;
 use thr_values::call::{Arg, CallWord};
 use thr_values::name::Name;
 use thr_values::reply::Reply;
@@ -22,6 +24,41 @@ fn word_at<'a>(words: &[&'a [u8]], place: usize) -> &'a [u8]
     match words.get(place) {
         Some(word) => *word,
         None => b"",
+    }
+}
+
+/// The word among these at a place, empty where there is none.
+fn choice_at(choice: Choice, place: usize) -> &'static [u8]
+    ensures { result.now ≡ unwrap_or (slice_get (choice_words choice) place) [] }
+{
+    word_at(choice_texts(choice), place)
+}
+
+/// The word that says that there is no object of this kind, at the first place.
+fn absent_at(kind: Object, place: usize) -> &'static [u8]
+    ensures { result.now ≡ unwrap_or (slice_get (absent_word kind ∷ []) place) [] }
+{
+    match place {
+        0 => absent_text(kind),
+        _ => b"",
+    }
+}
+
+/// The fixed word at a place of those that may stand in a call (docs/journal.md, "Calls").
+fn fixed_word(call: CallWord, place: usize) -> &'static [u8]
+    ensures { result.now ≡ unwrap_or (slice_get (fixed_words call) place) [] }
+{
+    match call {
+        CallWord::AttrSetsched => choice_at(Choice::Policy, place),
+        CallWord::AttrSetinheritsched => choice_at(Choice::Inherit, place),
+        CallWord::Create => absent_at(Object::Attr, place),
+        CallWord::Setcancel => choice_at(Choice::Cancel, place),
+        CallWord::Setasynccancel => choice_at(Choice::Cancel, place),
+        CallWord::Setscheduler => choice_at(Choice::Policy, place),
+        CallWord::MutexattrSetkindNp => choice_at(Choice::MutexKind, place),
+        CallWord::MutexInit => absent_at(Object::Mutexattr, place),
+        CallWord::Keycreate => absent_at(Object::Routine, place),
+        _ => b"",
     }
 }
 
@@ -38,7 +75,7 @@ fn add_argument(
         Arg::Nothing => Ok(()),
         Arg::Name(name) => add_name(out, names, name),
         Arg::Num(n) => add_number(out, n),
-        Arg::Word(place) => add_word(out, word_at(fixed_words(call), usize::from(place))),
+        Arg::Word(place) => add_word(out, fixed_word(call, usize::from(place))),
     }
 }
 

@@ -6,13 +6,14 @@ ghost use Rattle.std.specs.Prelude.{◌≡◌, ◌++◌, ◌∷◌, [], OnOk};
 ghost use Rattle.std.specs.Fmt.{decimal, signed_decimal};
 ghost use Rattle.thr_text.specs.Journals.{name_word, thread_word, gift_word, exception_words, at_line, what_words, reply_word};
 ghost use Rattle.thr_grammar.specs.Printing.{spaced};
-ghost use Rattle.thr_journal.specs.Words.{line_word};
+ghost use Rattle.thr_journals.specs.Lines.{line_word};
 ghost use Rattle.std.specs.Prelude.{codes};
 
 use crate::printing::call::{add_call, add_reply};
 use crate::printing::word::{add_count, add_name, add_number, add_place, add_thread, add_word};
-use crate::words::LineWord;
 use std::alloc::AllocError;
+use thr_journals::texts::line_text;
+use thr_journals::word::LineWord;
 use thr_values::exception::Exc;
 use thr_values::history::What;
 use thr_values::name::Name;
@@ -23,7 +24,7 @@ use thr_values::reply::Reply;
 fn add_bare(out: &mut Vec<u8>, word: LineWord) -> Result<(), AllocError>
     ensures { OnOk result (out.new.items ≡ out.old.items ++ spaced (line_word word ∷ [])) }
 {
-    add_word(out, word.text())
+    add_word(out, line_text(word))
 }
 
 /// Adds a word and a value.
@@ -128,9 +129,9 @@ fn add_with_exception(
 
 /// Adds a dispatch.
 fn add_run(out: &mut Vec<u8>, thread: Tid) -> Result<(), AllocError>
-    ensures { OnOk result (out.new.items ≡ out.old.items ++ spaced (line_word LineWord.Run ∷ thread_word thread ∷ [])) }
+    ensures { OnOk result (out.new.items ≡ out.old.items ++ spaced (codes "run" ∷ thread_word thread ∷ [])) }
 {
-    add_bare(out, LineWord::Run)?;
+    add_word(out, b"run")?;
     add_thread(out, thread)
 }
 
@@ -176,7 +177,7 @@ fn add_destroy(
 }
 
 /// Adds what a line says.
-#[tactic(auto, unfolding(crate::specs::Words::line_word))]
+#[tactic(auto, unfolding(thr_journals::specs::Lines::line_word))]
 pub(crate) fn add_what(out: &mut Vec<u8>, names: &[Name], what: &What) -> Result<(), AllocError>
     ensures { OnOk result (out.new.items ≡ out.old.items ++ spaced (what_words names.now what.now)) }
 {
