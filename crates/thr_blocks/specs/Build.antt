@@ -137,6 +137,11 @@ abbrev pub reversed : Option OpenRoutine → Option OpenRoutine
 reversed None = None
 reversed (Some r) = Some (reversed_routine r)
 
+-- What is open after a line in a routine, which may have ended it.
+abbrev pub left_open : Bool → OpenRoutine → Option OpenRoutine
+left_open true r = None
+left_open false r = Some (reversed_routine r)
+
 -- ---- lines
 
 -- A line of its own, and not the first line of a text.

@@ -1,17 +1,18 @@
 //! Trees from lines, by the blocks that are open.
 
-ghost use Rattle.std.specs.Prelude.{◌≡◌, ℕ, [], ◌∷◌, ◌++◌, reverse, true, map, None, List, IfOk};
+ghost use Rattle.std.specs.Prelude.{◌≡◌, ℕ, [], ◌∷◌, ◌++◌, reverse, false, true, map, None, List, IfOk, OnOk};
 ghost use Rattle.std.specs.List.{filter, list_all};
 ghost use Rattle.thr_syntax.specs.Lines.{joined, item_lines};
 ghost use Rattle.thr_syntax.specs.declared.tree.Item.{Item};
 ghost use Rattle.thr_text.specs.Blocks.{Line, form_shape, shape_of_line, block_faults, Nest};
 ghost use Rattle.thr_blocks.specs.Trees.{item_nests};
 ghost use Rattle.thr_blocks.specs.Build as Build;
-ghost use Rattle.thr_blocks.specs.Build.{frame, with_parts, begun_routine, closed, reversed, reversed_routine, at_else, at_clause, at_finally, next_part, built, is_own};
+ghost use Rattle.thr_blocks.specs.Build.{frame, with_parts, begun_routine, closed, reversed, reversed_routine, at_else, at_clause, at_finally, next_part, built, is_own, left_open};
 
 use crate::frame::{Frame, OpenRoutine, Opener, Part};
 use sqlite_items::Items;
 use std::alloc::{AllocError, Global};
+use std::mem;
 use thr_syntax::form::Form;
 use thr_syntax::tree::{Clause, Item, Routine, Stmt};
 use thr_values::name::Name;
@@ -96,130 +97,73 @@ fn next_part(
     }
 }
 
-/// Puts a statement into the innermost block.
-fn with_stmt(routine: OpenRoutine, stmt: Stmt) -> Result<OpenRoutine, AllocError>
-    ensures { IfOk result (λ r. r ≡ with_parts routine routine.locals (routine.body ++ stmt ∷ []) routine.frames) }
+/// Puts a statement into the innermost block. It answers, as the others do, whether the line ends the routine.
+fn add_stmt(routine: &mut OpenRoutine, stmt: Stmt) -> Result<bool, AllocError>
+    ensures { IfOk result (λ ended. (ended ≡ false) × (routine.new ≡ with_parts routine.old routine.old.locals (routine.old.body ++ stmt ∷ []) routine.old.frames)) }
 {
-    let OpenRoutine {
-        name,
-        locals,
-        mut body,
-        frames,
-    } = routine;
-    body.push(stmt)?;
-    Ok(OpenRoutine {
-        name,
-        locals,
-        body,
-        frames,
-    })
+    routine.body.push(stmt)?;
+    Ok(false)
 }
 
-fn with_local(routine: OpenRoutine, local: Name) -> Result<OpenRoutine, AllocError>
-    ensures { IfOk result (λ r. r ≡ with_parts routine (routine.locals ++ local ∷ []) routine.body routine.frames) }
+fn add_local(routine: &mut OpenRoutine, local: Name) -> Result<bool, AllocError>
+    ensures { IfOk result (λ ended. (ended ≡ false) × (routine.new ≡ with_parts routine.old (routine.old.locals ++ local ∷ []) routine.old.body routine.old.frames)) }
 {
-    let OpenRoutine {
-        name,
-        mut locals,
-        body,
-        frames,
-    } = routine;
-    locals.push(local)?;
-    Ok(OpenRoutine {
-        name,
-        locals,
-        body,
-        frames,
-    })
+    routine.locals.push(local)?;
+    Ok(false)
+}
+
+/// Takes the statements of the innermost block out.
+fn take_body(alloc: Global, routine: &mut OpenRoutine) -> Items<Stmt>
+    ensures body { result ≡ routine.old.body }
+    ensures left { routine.new ≡ with_parts routine.old routine.old.locals [] routine.old.frames }
+{
+    mem::replace(&mut routine.body, Items::new(alloc))
 }
 
 /// Opens a block inside the innermost.
-fn with_block(
-    alloc: Global,
-    routine: OpenRoutine,
-    opener: Opener,
-) -> Result<OpenRoutine, AllocError>
-    ensures { IfOk result (λ r. r ≡ with_parts routine routine.locals [] (routine.frames ++ frame opener routine.body ∷ [])) }
+fn open_block(alloc: Global, routine: &mut OpenRoutine, opener: Opener) -> Result<bool, AllocError>
+    ensures { IfOk result (λ ended. (ended ≡ false) × (routine.new ≡ with_parts routine.old routine.old.locals [] (routine.old.frames ++ frame opener routine.old.body ∷ []))) }
 {
-    let OpenRoutine {
-        name,
-        locals,
-        body,
-        mut frames,
-    } = routine;
-    frames.push(Frame {
-        opener,
-        outer: body,
-    })?;
-    Ok(OpenRoutine {
-        name,
-        locals,
-        body: Items::new(alloc),
-        frames,
-    })
+    let outer = take_body(alloc, routine);
+    routine.frames.push(Frame { opener, outer })?;
+    Ok(false)
 }
 
 /// Begins the next part of the innermost block.
-fn next_part_begun(
-    alloc: Global,
-    routine: OpenRoutine,
-    part: Part,
-) -> Result<OpenRoutine, AllocError>
-    ensures { IfOk result (λ r. reversed_routine r ≡ Build.next_part_begun part (reversed_routine routine) (reverse routine.frames)) }
+fn begin_part(alloc: Global, routine: &mut OpenRoutine, part: Part) -> Result<bool, AllocError>
+    ensures { IfOk result (λ ended. (ended ≡ false) × (reversed_routine routine.new ≡ Build.next_part_begun part (reversed_routine routine.old) (reverse routine.old.frames))) }
 {
-    let OpenRoutine {
-        name,
-        locals,
-        body,
-        mut frames,
-    } = routine;
-    match frames.pop() {
-        None => Ok(OpenRoutine {
-            name,
-            locals,
-            body,
-            frames,
-        }),
+    match routine.frames.pop() {
+        None => Ok(false),
         Some(Frame { opener, outer }) => {
+            let body = take_body(alloc, routine);
             let opener = next_part(alloc, part, opener, body)?;
-            frames.push(Frame { opener, outer })?;
-            Ok(OpenRoutine {
-                name,
-                locals,
-                body: Items::new(alloc),
-                frames,
-            })
+            routine.frames.push(Frame { opener, outer })?;
+            Ok(false)
         }
     }
 }
 
-/// Ends the innermost block, or else the routine.
-fn block_closed(
+/// Ends the innermost block, or else the routine, and answers whether it was the routine, whose parts are then taken out.
+fn close(
     alloc: Global,
     items: &mut Items<Item>,
-    routine: OpenRoutine,
-) -> Result<Option<OpenRoutine>, AllocError>
-    ensures { IfOk result (λ o. (items.new, reversed o) ≡ Build.block_closed items.old (reversed_routine routine) (reverse routine.frames)) }
+    routine: &mut OpenRoutine,
+) -> Result<bool, AllocError>
+    ensures { IfOk result (λ ended. (items.new, left_open ended routine.new) ≡ Build.block_closed items.old (reversed_routine routine.old) (reverse routine.old.frames)) }
 {
-    let OpenRoutine {
-        name,
-        locals,
-        body,
-        mut frames,
-    } = routine;
-    match frames.pop() {
+    let body = take_body(alloc, routine);
+    match routine.frames.pop() {
         None => {
+            let name = routine.name;
+            let locals = mem::replace(&mut routine.locals, Items::new(alloc));
             items.push(Item::Routine(Routine { name, locals, body }))?;
-            Ok(None)
+            Ok(true)
         }
         Some(Frame { opener, mut outer }) => {
             outer.push(closed(alloc, opener, body)?)?;
-            Ok(Some(OpenRoutine {
-                name,
-                locals,
-                body: outer,
-                frames,
-            }))
+            routine.body = outer;
+            Ok(false)
         }
     }
 }
@@ -272,34 +216,35 @@ fn put_outside(
     }
 }
 
+/// Takes one line more of a routine, and answers whether it ends the routine.
 #[tactic(auto, unfolding(crate::specs::Build::put_inside))]
 fn put_inside(
     alloc: Global,
     items: &mut Items<Item>,
-    routine: OpenRoutine,
+    routine: &mut OpenRoutine,
     form: Form,
-) -> Result<Option<OpenRoutine>, AllocError>
-    ensures { IfOk result (λ o. (items.new, reversed o) ≡ Build.put_inside items.old (reversed_routine routine) form) }
+) -> Result<bool, AllocError>
+    ensures { IfOk result (λ ended. (items.new, left_open ended routine.new) ≡ Build.put_inside items.old (reversed_routine routine.old) form) }
 {
     match form {
-        Form::Local(name) => Ok(Some(with_local(routine, name)?)),
-        Form::Set(v, e) => Ok(Some(with_stmt(routine, Stmt::Set(v, e))?)),
-        Form::Say(e) => Ok(Some(with_stmt(routine, Stmt::Say(e))?)),
-        Form::If(e) => Ok(Some(with_block(alloc, routine, Opener::If(e))?)),
-        Form::Else => Ok(Some(next_part_begun(alloc, routine, Part::Else)?)),
-        Form::While(e) => Ok(Some(with_block(alloc, routine, Opener::While(e))?)),
-        Form::Try => Ok(Some(with_block(alloc, routine, Opener::Try)?)),
-        Form::Catch(x) => Ok(Some(next_part_begun(alloc, routine, Part::Catch(Some(x)))?)),
-        Form::CatchAll => Ok(Some(next_part_begun(alloc, routine, Part::Catch(None))?)),
-        Form::Finally => Ok(Some(next_part_begun(alloc, routine, Part::Finally)?)),
-        Form::Raise(x) => Ok(Some(with_stmt(routine, Stmt::Raise(x))?)),
-        Form::Reraise => Ok(Some(with_stmt(routine, Stmt::Reraise)?)),
-        Form::Call(name, e, v) => Ok(Some(with_stmt(routine, Stmt::Call(name, e, v))?)),
-        Form::Return(e) => Ok(Some(with_stmt(routine, Stmt::Return(e))?)),
-        Form::Exit(e) => Ok(Some(with_stmt(routine, Stmt::Exit(e))?)),
-        Form::Dce(call) => Ok(Some(with_stmt(routine, Stmt::Dce(call))?)),
-        Form::Endtry | Form::End => block_closed(alloc, items, routine),
-        _ => Ok(Some(routine)),
+        Form::Local(name) => add_local(routine, name),
+        Form::Set(v, e) => add_stmt(routine, Stmt::Set(v, e)),
+        Form::Say(e) => add_stmt(routine, Stmt::Say(e)),
+        Form::If(e) => open_block(alloc, routine, Opener::If(e)),
+        Form::Else => begin_part(alloc, routine, Part::Else),
+        Form::While(e) => open_block(alloc, routine, Opener::While(e)),
+        Form::Try => open_block(alloc, routine, Opener::Try),
+        Form::Catch(x) => begin_part(alloc, routine, Part::Catch(Some(x))),
+        Form::CatchAll => begin_part(alloc, routine, Part::Catch(None)),
+        Form::Finally => begin_part(alloc, routine, Part::Finally),
+        Form::Raise(x) => add_stmt(routine, Stmt::Raise(x)),
+        Form::Reraise => add_stmt(routine, Stmt::Reraise),
+        Form::Call(name, e, v) => add_stmt(routine, Stmt::Call(name, e, v)),
+        Form::Return(e) => add_stmt(routine, Stmt::Return(e)),
+        Form::Exit(e) => add_stmt(routine, Stmt::Exit(e)),
+        Form::Dce(call) => add_stmt(routine, Stmt::Dce(call)),
+        Form::Endtry | Form::End => close(alloc, items, routine),
+        _ => Ok(false),
     }
 }
 
@@ -307,15 +252,20 @@ fn put_inside(
 fn put(
     alloc: Global,
     items: &mut Items<Item>,
-    routine: Option<OpenRoutine>,
+    routine: &mut Option<OpenRoutine>,
     form: Form,
-) -> Result<Option<OpenRoutine>, AllocError>
-    ensures { IfOk result (λ o. (items.new, reversed o) ≡ Build.put (items.old, reversed routine) form) }
+) -> Result<(), AllocError>
+    ensures { OnOk result ((items.new, reversed routine.new) ≡ Build.put (items.old, reversed routine.old) form) }
 {
     match routine {
-        None => put_outside(alloc, items, form),
-        Some(routine) => put_inside(alloc, items, routine, form),
+        None => *routine = put_outside(alloc, items, form)?,
+        Some(open) => {
+            if put_inside(alloc, items, open, form)? {
+                *routine = None;
+            }
+        }
     }
+    Ok(())
 }
 
 fn build(
@@ -328,7 +278,7 @@ fn build(
 {
     let mut routine = None;
     for form in forms {
-        routine = put(alloc, items, routine, form)?;
+        put(alloc, items, &mut routine, form)?;
     }
     Ok(routine)
 }
