@@ -8,14 +8,16 @@ ghost use Rattle.std.specs.Cmp.Rules.{hashing};
 ghost use Rattle.std.proofs.Common.{rules};
 ghost use Rattle.thr_values.specs.Names.{IsNameText};
 
+use arrayvec::ArrayVec;
 use std::alloc::{AllocError, Global};
 use std::hash::{Hash, Hasher};
 use std::marker::Model;
 
-/// A name of a script, which contracts see as its bytes: 1 to 24 of them.
+/// A name of a script, which contracts see as its bytes: 1 to 24 of them. They lie in the value itself, so names take no memory of
+/// their own, though those who make one by an allocator answer for it.
 #[derive(Debug, Drop)]
 pub struct Name {
-    bytes: Vec<u8>,
+    bytes: ArrayVec<u8, 24>,
 }
 
 impl Model for Name {
@@ -34,12 +36,15 @@ impl Model for Name {
 
 impl Name {
     /// A name with these bytes. Whether they have the form of a name is the caller's affair.
-    pub fn from_slice(alloc: Global, bytes: &[u8]) -> Result<Name, AllocError>
-        requires { IsNameText bytes.now }
-        ensures { IfOk result (λ n. n ≡ bytes.now) }
+    pub fn from_slice(_alloc: Global, text: &[u8]) -> Result<Name, AllocError>
+        requires { IsNameText text.now }
+        ensures { IfOk result (λ n. n ≡ text.now) }
     {
-        let bytes = Vec::from_slice(alloc, bytes)?;
-        Ok(Name { bytes })
+        let mut bytes = ArrayVec::new();
+        match bytes.try_extend_from_slice(text) {
+            Ok(()) => Ok(Name { bytes }),
+            Err(_) => Err(AllocError),
+        }
     }
 
     pub fn as_slice(&self) -> &[u8]
@@ -54,7 +59,8 @@ impl Clone for Name {
     ghost is_clone = { λ name copy. copy ≡ name };
 
     fn clone(&self) -> Result<Name, AllocError> {
-        Name::from_slice(*self.bytes.allocator(), self.bytes.as_slice())
+        let bytes = self.bytes.clone()?;
+        Ok(Name { bytes })
     }
 }
 
