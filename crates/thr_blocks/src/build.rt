@@ -212,7 +212,7 @@ fn put_outside(
         Form::Once(name) => with_item(items, Item::Once(name)),
         Form::Pipe(name, n) => with_item(items, Item::Pipe(name, n)),
         Form::Routine(name, parameter) => Ok(Some(with_parts(alloc, name, parameter)?)),
-        _ => Ok(None),
+        _other => Ok(None),
     }
 }
 

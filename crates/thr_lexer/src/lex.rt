@@ -9,8 +9,8 @@ ghost use Rattle.thr_lexer.specs.Refusals.{Refuses};
 
 use crate::fault::LexFault;
 use crate::words::Words;
-use sqlite_items::Items;
 use std::alloc::Global;
+use thr_text::mark::Mark;
 use thr_text::names::has_name_form;
 use thr_text::word::Word;
 use thr_values::name::Name;
@@ -121,7 +121,7 @@ fn name_or_mark(alloc: Global, text: &[u8]) -> Result<Word, LexFault>
     if has_name_form(text) {
         Ok(Word::Name(Name::from_slice(alloc, text)?))
     } else {
-        Ok(Word::Mark(Items::from_slice(alloc, text)?))
+        Ok(Word::Mark(Mark::from_slice(alloc, text)?))
     }
 }
 

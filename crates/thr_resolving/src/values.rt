@@ -117,7 +117,7 @@ fn as_own(value: Option<Value>) -> Option<Name>
 {
     match value {
         Some(Value::Own(value)) => value,
-        _ => None,
+        _other => None,
     }
 }
 

@@ -7,6 +7,7 @@ pub mod fault;
 pub mod fixed;
 pub mod head;
 pub mod laws;
+pub mod mark;
 pub mod names;
 pub mod object;
 pub mod operands;

@@ -1,6 +1,6 @@
 //! Words of a line.
 
-use sqlite_items::Items;
+use crate::mark::Mark;
 use thr_values::name::Name;
 
 /// A word of a line of a script (docs/script.md, "Words").
@@ -11,7 +11,7 @@ pub enum Word {
     /// Any other word that has the form of a name, reserved or not.
     Name(Name),
     /// Any other word, such as an operator, or a fixed word that is too long to be a name.
-    Mark(Items<u8>),
+    Mark(Mark),
 }
 
 impl Default for Word {
