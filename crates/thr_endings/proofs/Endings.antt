@@ -48,6 +48,11 @@ told-long most None now P t p = tt
 told-long most (Some before) None P t p = absurd t
 told-long most (Some before) (Some now) P t p = p before (omega (arith, t))
 
+-- What holds anyway holds where more than the limit was taken, too.
+pub told-anyway : (most : ℕ) (left now : Option (List ℕ)) (P : Type 0) → P → IfSome left (λ before. TookMoreThan most before now → P)
+told-anyway most None now P p = tt
+told-anyway most (Some before) now P p = λ more. p
+
 -- ---- statuses
 
 -- One of three statuses, where the third is ruled out.

@@ -1,11 +1,11 @@
 //! Reads a journal and answers a command on it.
 
-ghost use Rattle.std.specs.Prelude.{◌≡◌, ◌≢◌, ◌≤◌, ◌+◌, ◌⊎◌, ℕ, List, [], Some, length, IfSome};
+ghost use Rattle.std.specs.Prelude.{◌≡◌, ◌≢◌, ◌≤◌, ◌+◌, ◌⊎◌, ℕ, List, [], Some, codes, length, IfSome};
 ghost use Rattle.thr_wire.specs.Bytes.{TookAtMost, TookMoreThan};
 ghost use Rattle.thr_wire.specs.Causes.{Rose};
 ghost use Rattle.thr_syntax.specs.declared.journal.Journal.{Journal};
 ghost use Rattle.thr_verdict.specs.FormedJournals.{FormedJournal};
-ghost use Rattle.thr_endings.specs.Endings.{Ends};
+ghost use Rattle.thr_endings.specs.Endings.{Ends, Writes, one_line};
 ghost use Rattle.thr_journal_commands.specs.declared.command.JournalCommand.TheVariants.{Verify};
 ghost use Rattle.thr_journal_commands.specs.Answers.{IsGiven, IsTextOf, IsDone, JournalAnswers, max_journal};
 
@@ -68,6 +68,7 @@ pub fn on_journal<S: Source, K: Sink>(
 ) -> Status
     ensures at_most { TookAtMost (max_journal + 1) (S.left source.old) (S.left source.new) }
     ensures taken { result.0 ≢ 3 → result.0 ≢ 5 → IfSome (S.left source.old) (λ input. (S.left source.new ≡ Some []) ⊎ TookMoreThan max_journal input (S.left source.new)) }
+    ensures only_long { IfSome (S.left source.old) (λ input. TookMoreThan max_journal input (S.left source.new) → Writes (K.held sink.old) (K.held sink.new) result.0 2 (one_line (codes "refused too long"))) }
     ensures answers { IfSome (S.left source.old) (λ input. Ends (JournalAnswers command input) (K.held sink.old) (K.held sink.new) result.0) }
     ensures complete { IfSome (S.left source.old) (λ input. (j : Journal) → IsGiven input j
         → ¬ (Rose (S.faults source.old) (S.faults source.new)) → ¬ (Rose (K.faults sink.old) (K.faults sink.new)) → IsDone command j result.0) }

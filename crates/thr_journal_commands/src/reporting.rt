@@ -7,8 +7,8 @@ ghost use Rattle.thr_journal_commands.specs.Answers.{IsTextOf, ReportAnswers, ma
 
 use std::alloc::Global;
 use thr_endings::{Status, give};
-use thr_report::{report, report_text};
 use thr_syntax::journal::Journal;
+use thr_verify::{report, report_text};
 use thr_wire::wire::Sink;
 
 /// Writes the report on a journal.

@@ -1,11 +1,11 @@
 //! The commands that need no workers.
 
-ghost use Rattle.std.specs.Prelude.{◌≡◌, ◌≢◌, ◌≤◌, ◌+◌, ◌⊎◌, IfSome, List, [], ℕ, Some, length};
+ghost use Rattle.std.specs.Prelude.{◌≡◌, ◌≢◌, ◌≤◌, ◌+◌, ◌⊎◌, IfSome, List, [], ℕ, Some, codes, length};
 ghost use Rattle.thr_wire.specs.Bytes.{TookAtMost, TookMoreThan};
 ghost use Rattle.thr_wire.specs.Causes.{Rose};
 ghost use Rattle.thr_text.specs.Faults.{first_of};
 ghost use Rattle.thr_text.specs.Reading.{Reads, faults};
-ghost use Rattle.thr_endings.specs.Endings.{Ends, Gives, Writes};
+ghost use Rattle.thr_endings.specs.Endings.{Ends, Gives, Writes, one_line};
 ghost use Rattle.thr_syntax.specs.declared.journal.Journal.{Journal};
 ghost use Rattle.thr_journal_commands.specs.declared.command.JournalCommand.TheVariants as journal;
 ghost use Rattle.thr_journal_commands.specs.Answers.{IsDone, IsGiven, ReportAnswers, VerifyAnswers, max_journal};
@@ -76,6 +76,7 @@ fn check_input<K: Sink>(alloc: Global, input: &[u8], sink: &mut K) -> Status
 fn check_on<S: Source, K: Sink>(alloc: Global, source: &mut S, sink: &mut K) -> Status
     ensures at_most { TookAtMost (max_script + 1) (S.left source.old) (S.left source.new) }
     ensures taken { result.0 ≢ 3 → result.0 ≢ 5 → IfSome (S.left source.old) (λ input. (S.left source.new ≡ Some []) ⊎ TookMoreThan max_script input (S.left source.new)) }
+    ensures only_long { IfSome (S.left source.old) (λ input. TookMoreThan max_script input (S.left source.new) → Writes (K.held sink.old) (K.held sink.new) result.0 2 (one_line (codes "refused too long"))) }
     ensures check { IfSome (S.left source.old) (λ input. Ends (CheckAnswers input) (K.held sink.old) (K.held sink.new) result.0) }
     ensures complete { IfSome (S.left source.old) (λ input.
         IsScript input → ¬ (Rose (S.faults source.old) (S.faults source.new)) → ¬ (Rose (K.faults sink.old) (K.faults sink.new))
@@ -107,13 +108,16 @@ pub fn plain_top<S: Source, K: Sink>(
     ensures only_usage { result.0 ≡ 1 → ¬ (IsPlain words.now) }
     ensures unread { ¬ (IsCheck words.now) → ¬ (ReadsJournal words.now) → source.new ≡ source.old }
 
-    // `check` takes all that the source has left, or more than the limit of it and nothing behind the byte that shows so.
+    // `check` takes all that the source has left, or more than the limit of it and nothing behind the byte that shows so. Where it
+    // takes more than the limit, it refuses that for its length.
     ensures at_most { IsCheck words.now → TookAtMost (max_script + 1) (S.left source.old) (S.left source.new) }
     ensures taken { IsCheck words.now → result.0 ≢ 3 → result.0 ≢ 5 → IfSome (S.left source.old) (λ input. (S.left source.new ≡ Some []) ⊎ TookMoreThan max_script input (S.left source.new)) }
+    ensures only_long { IsCheck words.now → IfSome (S.left source.old) (λ input. TookMoreThan max_script input (S.left source.new) → Writes (K.held sink.old) (K.held sink.new) result.0 2 (one_line (codes "refused too long"))) }
 
     // So do `verify` and `report`, with the limit of a journal.
     ensures journal_at_most { ReadsJournal words.now → TookAtMost (max_journal + 1) (S.left source.old) (S.left source.new) }
     ensures journal_taken { ReadsJournal words.now → result.0 ≢ 3 → result.0 ≢ 5 → IfSome (S.left source.old) (λ input. (S.left source.new ≡ Some []) ⊎ TookMoreThan max_journal input (S.left source.new)) }
+    ensures journal_only_long { ReadsJournal words.now → IfSome (S.left source.old) (λ input. TookMoreThan max_journal input (S.left source.new) → Writes (K.held sink.old) (K.held sink.new) result.0 2 (one_line (codes "refused too long"))) }
 
     // `check` writes the canonical text of the script, or what stands in its place. Where no device has a fault, the text of
     // a script gives 0, or 5 for want of memory.

@@ -1,10 +1,10 @@
 //! The top call.
 
-ghost use Rattle.std.specs.Prelude.{◌≡◌, ◌≢◌, ◌≤◌, ◌+◌, ◌⊎◌, IfSome, List, [], ℕ, None, Some, length};
+ghost use Rattle.std.specs.Prelude.{◌≡◌, ◌≢◌, ◌≤◌, ◌+◌, ◌⊎◌, IfSome, List, [], ℕ, None, Some, codes, length};
 ghost use Rattle.thr_wire.specs.Bytes.{TookAtMost, TookMoreThan};
 ghost use Rattle.thr_wire.specs.Causes.{Rose};
 ghost use Rattle.thr_text.specs.Reading.{Formed, Reads};
-ghost use Rattle.thr_endings.specs.Endings.{Ends, Gives, Writes};
+ghost use Rattle.thr_endings.specs.Endings.{Ends, Gives, Writes, one_line};
 ghost use Rattle.thr_syntax.specs.declared.journal.Journal.{Journal};
 ghost use Rattle.thr_journal_commands.specs.declared.command.JournalCommand.TheVariants as journal;
 ghost use Rattle.thr_journal_commands.specs.Answers.{IsDone, IsGiven, ReportAnswers, VerifyAnswers, max_journal};
@@ -92,6 +92,7 @@ fn run_on<S: Source, K: Sink, R: Threads + Wait + Sync, G: Gate + Sync>(
     requires few { workers ≤ 16 }
     ensures at_most { TookAtMost (max_script + 1) (S.left source.old) (S.left source.new) }
     ensures taken { result.0 ≢ 3 → result.0 ≢ 5 → IfSome (S.left source.old) (λ input. (S.left source.new ≡ Some []) ⊎ TookMoreThan max_script input (S.left source.new)) }
+    ensures only_long { IfSome (S.left source.old) (λ input. TookMoreThan max_script input (S.left source.new) → Writes (K.held sink.old) (K.held sink.new) result.0 2 (one_line (codes "refused too long"))) }
     ensures run { IfSome (S.left source.old) (λ input. Ends (RunAnswers workers input) (K.held sink.old) (K.held sink.new) result.0) }
     ensures complete { IfSome (S.left source.old) (λ input.
         IsScript input → ¬ (Rose (S.faults source.old) (S.faults source.new)) → ¬ (Rose (K.faults sink.old) (K.faults sink.new))
@@ -127,12 +128,15 @@ pub fn top<S: Source, K: Sink, R: Threads + Wait + Sync, G: Gate + Sync>(
     ensures unread { ¬ (ReadsScript words.now) → ¬ (ReadsJournal words.now) → source.new ≡ source.old }
 
     // `run` and `check` take all that the source has left, or more than the limit of it and nothing behind the byte that shows so.
+    // Where they take more than the limit, they refuse that for its length.
     ensures at_most { ReadsScript words.now → TookAtMost (max_script + 1) (S.left source.old) (S.left source.new) }
     ensures taken { ReadsScript words.now → result.0 ≢ 3 → result.0 ≢ 5 → IfSome (S.left source.old) (λ input. (S.left source.new ≡ Some []) ⊎ TookMoreThan max_script input (S.left source.new)) }
+    ensures only_long { ReadsScript words.now → IfSome (S.left source.old) (λ input. TookMoreThan max_script input (S.left source.new) → Writes (K.held sink.old) (K.held sink.new) result.0 2 (one_line (codes "refused too long"))) }
 
     // So do `verify` and `report`, with the limit of a journal.
     ensures journal_at_most { ReadsJournal words.now → TookAtMost (max_journal + 1) (S.left source.old) (S.left source.new) }
     ensures journal_taken { ReadsJournal words.now → result.0 ≢ 3 → result.0 ≢ 5 → IfSome (S.left source.old) (λ input. (S.left source.new ≡ Some []) ⊎ TookMoreThan max_journal input (S.left source.new)) }
+    ensures journal_only_long { ReadsJournal words.now → IfSome (S.left source.old) (λ input. TookMoreThan max_journal input (S.left source.new) → Writes (K.held sink.old) (K.held sink.new) result.0 2 (one_line (codes "refused too long"))) }
 
     // `run` writes the journal of a legal history of the script by so many workers, or what stands in its place. In that history each
     // unwinding takes its route through the open handlers until it is caught or replaced, no mutex has two owners, cancels are

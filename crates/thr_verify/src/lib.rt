@@ -1,4 +1,5 @@
-//! Verdicts on journals: a journal is replayed on the machine, event by event (docs/journal.md, "The verdict").
+//! Verdicts on journals: a journal is replayed on the machine, event by event (docs/journal.md, "The verdict"). Reports on journals
+//! are passed on.
 #![tactic(auto)]
 
 mod events;
@@ -7,4 +8,6 @@ mod verifying;
 
 pub use thr_comparing::verdict::{Differs, Verdict};
 pub use thr_comparing::verdict_text;
+pub use thr_report::counts::Report;
+pub use thr_report::{report, report_text};
 pub use verifying::verify;

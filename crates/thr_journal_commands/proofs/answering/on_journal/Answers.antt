@@ -1,6 +1,6 @@
 use Rattle.std.proofs.Common.{ap, refl, Err, arith}
 use Rattle.thr_endings.specs.Endings.{Ends, answered}
-use Rattle.thr_endings.proofs.Endings.{ends-no-memory, ends-so, told-all, told-any, told-long}
+use Rattle.thr_endings.proofs.Endings.{ends-no-memory, ends-so, told-all, told-any, told-anyway, told-long}
 use Rattle.thr_journal_commands.specs.Answers.{JournalAnswers, RefusesJournal, no_memory, too_long, max_journal}
 use Rattle.thr_journal_commands.proofs.Told.{refused-so, no-memory-done}
 use Rattle.thr_journal_commands.proofs.answering.on_journal.Goals as goal
@@ -27,3 +27,6 @@ returns-in-Err-NoMemory-clause-answers g c =
 
 pub returns-in-Err-NoMemory-clause-complete : goal.returns-in-Err-NoMemory-clause-complete
 returns-in-Err-NoMemory-clause-complete g c = no-memory-done _ c.args.command _ _
+
+pub returns-in-Err-TooLong-clause-only_long : goal.returns-in-Err-TooLong-clause-only_long
+returns-in-Err-TooLong-clause-only_long g c = told-anyway max_journal _ _ _ c.give.ensures.written

@@ -1,6 +1,6 @@
 use Rattle.std.proofs.Common.{ap, refl, Err, arith}
 use Rattle.thr_endings.specs.Endings.{Ends, answered}
-use Rattle.thr_endings.proofs.Endings.{ends-no-memory, told-all, told-any, told-long, finishes-well}
+use Rattle.thr_endings.proofs.Endings.{ends-no-memory, told-all, told-any, told-anyway, told-long, finishes-well}
 use Rattle.thr_top.specs.Answers.{CheckAnswers, not_checked, too_long, max_script}
 use Rattle.thr_top.proofs.Endings.{no-memory-check}
 use Rattle.thr_top.proofs.check.check_on.Goals as goal
@@ -23,3 +23,6 @@ returns-in-Err-NoMemory-clause-check g c = told-any _ _ (λ input. ends-no-memor
 pub returns-in-Err-TooLong-clause-complete : goal.returns-in-Err-TooLong-clause-complete
 returns-in-Err-TooLong-clause-complete g c =
     told-long max_script _ _ _ (c.in-Err-TooLong.ensures.long (ap Err c.in-Err-TooLong.field-0-is)) (λ input long script read write. absurd (omega (arith, long, script.0)))
+
+pub returns-in-Err-TooLong-clause-only_long : goal.returns-in-Err-TooLong-clause-only_long
+returns-in-Err-TooLong-clause-only_long g c = told-anyway max_script _ _ _ c.give.ensures.written
