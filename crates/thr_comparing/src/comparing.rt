@@ -36,10 +36,13 @@ fn write_line(out: &mut Vec<u8>, names: &[Name], entry: &Entry) -> Result<(), Al
     add_entry(out, names, 0, entry)
 }
 
-/// Whether two lines are the same.
+/// Whether two lines are the same. Where they say the same their texts needn't be written; one line may be said in two ways.
 fn is_same_line(texts: &mut Texts, names: &[Name], a: &Entry, b: &Entry) -> Result<bool, AllocError>
     ensures { IfOk result (λ same. same ≡ is_same_line names.now a.now b.now) }
 {
+    if *a == *b {
+        return Ok(true);
+    }
     write_line(&mut texts.first, names, a)?;
     write_line(&mut texts.second, names, b)?;
     Ok(texts.first.as_slice() == texts.second.as_slice())

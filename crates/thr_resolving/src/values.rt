@@ -116,8 +116,11 @@ fn as_own(value: Option<Value>) -> Option<Name>
     ensures { result ≡ as_own value }
 {
     match value {
-        Some(Value::Own(value)) => value,
-        _other => None,
+        None => None,
+        Some(value) => match value {
+            Value::Own(value) => value,
+            _other => None,
+        },
     }
 }
 
