@@ -10,7 +10,7 @@ use Rattle.thr_syntax.specs.declared.tree.Script.{Script}
 use Rattle.thr_text.specs.Reading.{Formed}
 use Rattle.thr_model.specs.Histories.{Execution, History, Legal}
 use Rattle.thr_machine.specs.Views.{BookView}
-use Rattle.thr_workers.specs.Runs.{HasTurns, IsOver, HasCause}
+use Rattle.thr_holds.specs.Runs.{HasTurns, IsOver, HasCause}
 use Rattle.thr_alone.specs.Only.{IsOnlyHistory}
 use Rattle.thr_lawful.specs.Laws.{MeetsLaws}
 use Rattle.thr_model.specs.States.{State, shared_values}

@@ -112,8 +112,8 @@ fn run_on<S: Source, K: Sink, R: Threads + Wait + Sync, G: Gate + Sync>(
 }
 
 /// Does what the words say: reads the source, writes the sink and answers the status that the program ends with
-/// (docs/theorems.md, "The top call"). `run` and `trial` go by worker threads, one for each processor, which pass the gate without a lock. It is
-/// called by `main`. It may never return, since workers wait for one another, and so may the gate.
+/// (docs/theorems.md, "The top call"). `run` and `trial` go by workers, which pass the gate without a lock; no clause says how many threads they
+/// are. It is called by `main`. It may never return, since workers wait for one another, and so may the gate.
 pub fn top<S: Source, K: Sink, R: Threads + Wait + Sync, G: Gate + Sync>(
     rt: &R,
     alloc: Global,

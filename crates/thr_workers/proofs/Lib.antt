@@ -1,4 +1,2 @@
 mod Crossing
-mod Holds
 mod Laws
-mod Stops

@@ -4,17 +4,17 @@ ghost use Rattle.std.specs.Prelude.{◌≡◌, ◌+◌, ◌<◌, ◌≤◌, ◌^
 ghost use Rattle.thr_text.specs.Reading.{Formed};
 ghost use Rattle.thr_model.specs.Histories.{Legal};
 ghost use Rattle.thr_lawful.specs.Laws.{MeetsLaws};
-ghost use Rattle.thr_workers.specs.Runs.{IsOver, HasCause, HasTurns};
+ghost use Rattle.thr_holds.specs.Runs.{IsOver, HasCause, HasTurns};
 
-use crate::count::{Count, Naming, counts_of};
 use crate::gate::{Gate, Place};
-use crate::locked::{Found, Locked};
 use std::alloc::Global;
 use std::marker::Brand;
 use std::sync::ledger::Blank;
 use std::sync::{Condvar, Mutex, Wait};
 use std::thread;
 use std::thread::Threads;
+use thr_holds::count::{Count, Naming, counts_of};
+use thr_holds::locked::{Found, Locked};
 use thr_lawful::laws::legal_histories_meet_the_laws;
 use thr_machine::book::Book;
 use thr_syntax::tree::Script;
@@ -27,7 +27,7 @@ struct Monitor<N: Naming> {
     changed: Condvar,
 }
 
-/// The steps of a worker, each of which is one hold of the lock.
+/// The steps of a worker, each of which makes at most one event, in one hold of the lock.
 trait Steps<N: Naming> {
     fn look<R: Wait>(&self, rt: &R, p: u32) -> Found;
 
@@ -36,19 +36,21 @@ trait Steps<N: Naming> {
 
 impl<N: Naming> Steps<N> for Monitor<N> {
     /// Looks for a thread on the processor, and tells the others where the book was changed or is left. Where there is nothing
-    /// to do it waits until the book was changed.
+    /// to do it waits until the book was changed, and looks again in the hold in which it wakes.
     fn look<R: Wait>(&self, rt: &R, p: u32) -> Found {
         let mut locked = self.locked.lock(rt);
-        let found = locked.look(p);
-        match found {
-            Found::Thread => {}
-            Found::Nothing => drop(self.changed.wait(rt, locked)),
-            Found::Over | Found::Changed => {
-                drop(locked);
-                self.changed.notify_all();
+        for _ in rt.forever() {
+            match locked.look(p) {
+                Found::Nothing => locked = self.changed.wait(rt, locked),
+                Found::Thread => return Found::Thread,
+                found => {
+                    drop(locked);
+                    self.changed.notify_all();
+                    return found;
+                }
             }
         }
-        found
+        unreachable!()
     }
 
     /// Makes a turn of the processor's thread, where it still has one, and tells the others.
@@ -83,7 +85,7 @@ fn serve<N: Naming, R: Wait, G: Gate, D: Steps<N>>(
     }
 }
 
-/// Starts a worker for each count, and returns once all have left.
+/// Serves a processor for each count, in threads where the runtime makes some, and returns once all have left.
 fn serve_all<N: Naming + Send + Sync, R: Threads + Wait + Sync, G: Gate + Sync, D: Steps<N> + Sync>(
     rt: &R,
     monitor: &D,
@@ -101,7 +103,7 @@ fn serve_all<N: Naming + Send + Sync, R: Threads + Wait + Sync, G: Gate + Sync, 
     );
 }
 
-/// Starts a worker for each processor of the book, and goes on alone once they have left.
+/// Has each processor of the book served, and goes on alone once all workers have left.
 fn run_named<N: Naming + Send + Sync, R: Threads + Wait + Sync, G: Gate + Sync>(
     rt: &R,
     alloc: Global,
@@ -139,9 +141,9 @@ fn run_named<N: Naming + Send + Sync, R: Threads + Wait + Sync, G: Gate + Sync>(
     Ok((book, counted))
 }
 
-/// Runs the script on so many processors, with a worker thread for each, to its stop. The answer is the stopped book, whose
-/// history is legal, and how many turns the workers have counted. Each worker passes the gate without the lock. It may never
-/// return, since workers wait for one another.
+/// Runs the script on so many processors to its stop. The answer is the stopped book, whose history is legal, and how many
+/// turns were counted. Workers pass the gate without the lock. No clause says that there are several threads, or who makes a
+/// turn. It may never return, since workers wait for one another.
 pub fn run_workers<R: Threads + Wait + Sync, G: Gate + Sync>(
     rt: &R,
     alloc: Global,

@@ -62,14 +62,15 @@ fn what_is_put_is_taken_once(rt: HostRuntime) -> Result<(), Fail> {
 fn two_workers_are_between_their_holds(rt: HostRuntime) -> Result<(), Fail> {
     let gate = Holding::new();
     let words = words_of(rt.alloc(), "run", 2)?;
-    let (status, _) = answer_of(&rt, rt.alloc(), words.as_slice(), TWO_LOOPS, &gate)?;
+    let (status, sink) = answer_of(&rt, rt.alloc(), words.as_slice(), TWO_LOOPS, &gate)?;
     assert_eq!(rt; status, 0);
     assert!(rt; gate.has_met());
+    assert!(rt; count_of(sink.as_slice(), b" p1 run t") > 0);
     Ok(())
 }
 
 #[test]
-fn each_trial_is_made_by_its_workers(rt: HostRuntime) -> Result<(), Fail> {
+fn each_trial_is_made_by_workers(rt: HostRuntime) -> Result<(), Fail> {
     for workers in 1..17u32 {
         let gate = Counting::new();
         let words = words_of(rt.alloc(), "trial 1", workers)?;

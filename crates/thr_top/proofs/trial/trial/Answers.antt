@@ -2,7 +2,7 @@ use Rattle.std.proofs.Common.{refl, sym, subst, ◌∙◌, arith}
 use Rattle.thr_syntax.specs.declared.tree.Script.{Script}
 use Rattle.thr_text.specs.Reading.{Formed}
 use Rattle.thr_top.specs.Answers.{TrialAnswers, not_tried, trial_workers}
-use Rattle.thr_workers.specs.Runs.{IsOver}
+use Rattle.thr_holds.specs.Runs.{IsOver}
 use Rattle.thr_endings.proofs.Endings.{gives-no-memory}
 use Rattle.thr_top.proofs.Endings.{tried_by}
 use Rattle.thr_top.proofs.trial.trial.Goals as goal

@@ -9,7 +9,7 @@ use Rattle.thr_model.specs.States.{State}
 use Rattle.thr_model.specs.Histories.{stop_with, stop_at}
 use Rattle.thr_machine.specs.Views.{BookView}
 use Rattle.thr_machine.specs.Books.{stop_of}
-use Rattle.thr_workers.specs.Runs.{IsOver, HasCause}
+use Rattle.thr_holds.specs.Runs.{IsOver, HasCause}
 
 pub stopped-over : (b after : BookView) (why : Stop) (s : Script) (n : ℕ) → after ≡ record b { stopped = Some why } → IsOver b s n → IsOver after s n
 stopped-over b after why s n is o = record { script = ap (λ (v : BookView). v.script) is ∙ o.script; workers = ap (λ (v : BookView). v.workers) is ∙ o.workers }

@@ -6,11 +6,11 @@ ghost use Rattle.thr_syntax.specs.contracts.tree.Stmt as stmt;
 ghost use Rattle.thr_syntax.specs.contracts.expr.Expr as expr;
 ghost use Rattle.thr_values.specs.declared.event.Event.TheVariants as event;
 ghost use Rattle.thr_machine.specs.Books.{IsOpen};
-ghost use Rattle.thr_workers.specs.Runs.{IsOver, HasCause};
-ghost use Rattle.thr_workers.specs.Holds.{GoesOn, Moves, IsStill, HasLeft, HasThread, HasMade, HasMoved, HasNothing, HasNoTurn};
-ghost use Rattle.thr_workers.specs.declared.locked.Found.TheVariants as found;
+ghost use Rattle.thr_holds.specs.Runs.{IsOver, HasCause};
+ghost use Rattle.thr_holds.specs.Holds.{GoesOn, Moves, IsStill, HasLeft, HasThread, HasMade, HasMoved, HasNothing, HasNoTurn};
+ghost use Rattle.thr_holds.specs.declared.locked.Found.TheVariants as found;
 
-use crate::count::{Count, Naming};
+use crate::count::{Count, Naming, sum_of};
 use std::sync::Wait;
 use std::sync::ledger::Book as Tally;
 use thr_machine::book::Book;
@@ -120,18 +120,14 @@ impl<N: Naming> Locked<N> {
         if self.book.running(p).is_none() {
             return false;
         }
-        let Count { turns, share } = mine;
         let Locked { total, book, .. } = self;
         book.turn(p);
-        total.add(share, 1);
-        total.audit(share);
         let _made = book.turns();
-        *turns += 1;
+        mine.add_one(total);
         true
     }
 
-    /// Goes once round the processors, and makes an event at each, as long as the book is not stopped. Where no event was
-    /// made the clock moves.
+    /// Looks at each processor, and makes a turn of its thread where it has one. No clause says so, since `finish` asks for none.
     fn round(&mut self, workers: u32, mine: &mut Count<N>) {
         for p in 0..workers {
             if self.look(p) == Found::Thread {
@@ -170,19 +166,8 @@ impl<N: Naming> Locked<N> {
         ensures counted { result.1 ≡ self.book.turns }
     {
         let Locked { book, total, .. } = self;
-        let Count { turns, share } = mine;
-        let mut total = total;
-        let mut all = share;
-        let mut counts = counts;
-        let made = book.turns();
-        let mut sum = turns;
-        while let Some(count) = counts.pop() {
-            let Count { turns, share } = count;
-            all.merge(share);
-            total.audit(&mut all);
-            sum += turns;
-        }
-        total.audit(&mut all);
-        (book, sum)
+        let _made = book.turns();
+        let counted = sum_of(total, mine, counts);
+        (book, counted)
     }
 }

@@ -1,7 +1,7 @@
 use Rattle.std.proofs.Common.{refl}
-use Rattle.thr_workers.specs.declared.locked.Found.TheVariants as found
-use Rattle.thr_workers.proofs.Holds.{Looked, over, thread, changed, nothing, over-just, thread-just, changed-just, nothing-just, moved, stayed, some-by-test, none-by-test}
-use Rattle.thr_workers.proofs.locked.Locked.look.Goals as goal
+use Rattle.thr_holds.specs.declared.locked.Found.TheVariants as found
+use Rattle.thr_holds.proofs.Holds.{Looked, over, thread, changed, nothing, over-just, thread-just, changed-just, nothing-just, moved, stayed, some-by-test, none-by-test}
+use Rattle.thr_holds.proofs.locked.Locked.look.Goals as goal
 
 pub returns-then-not-opens : goal.returns-then-not-opens
 returns-then-not-opens g c =

@@ -2,8 +2,8 @@ use Rattle.std.proofs.Common.{inl, inr, subst}
 use Rattle.thr_values.specs.declared.event.Event.TheVariants as event
 use Rattle.thr_machine.specs.Views.{BookView}
 use Rattle.thr_machine.specs.Books.{Makes}
-use Rattle.thr_workers.proofs.Stops.{where-none}
-use Rattle.thr_workers.proofs.locked.Locked.move_on.Goals as goal
+use Rattle.thr_holds.proofs.Stops.{where-none}
+use Rattle.thr_holds.proofs.locked.Locked.move_on.Goals as goal
 
 pub returns-in-Some-clause-moves : goal.returns-in-Some-clause-moves
 returns-in-Some-clause-moves g c = λ e. inl c.in-Some.ensures.made

@@ -6,9 +6,9 @@ use Rattle.thr_values.specs.declared.event.Event.TheVariants as event
 use Rattle.thr_parts.specs.Dispatch.{running}
 use Rattle.thr_model.specs.Events.{made_by}
 use Rattle.thr_machine.specs.Views.{BookView}
-use Rattle.thr_workers.specs.Holds.{GoesOn, HasMade, Moves, HasMoved, IsStill, HasNothing, HasThread, SameRun, IsLeft, HasLeft, HasNoTurn}
-use Rattle.thr_workers.specs.declared.locked.Found.{Found}
-use Rattle.thr_workers.specs.declared.locked.Found.TheVariants as found
+use Rattle.thr_holds.specs.Holds.{GoesOn, HasMade, Moves, HasMoved, IsStill, HasNothing, HasThread, SameRun, IsLeft, HasLeft, HasNoTurn}
+use Rattle.thr_holds.specs.declared.locked.Found.{Found}
+use Rattle.thr_holds.specs.declared.locked.Found.TheVariants as found
 
 -- ---- one event more
 

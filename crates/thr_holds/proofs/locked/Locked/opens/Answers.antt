@@ -1,7 +1,7 @@
 use Rattle.std.proofs.Common.{◌∙◌, ap, sym}
 use Rattle.thr_machine.specs.Views.{BookView}
-use Rattle.thr_workers.proofs.Stops.{stopped-over, stopped-cause}
-use Rattle.thr_workers.proofs.locked.Locked.opens.Goals as goal
+use Rattle.thr_holds.proofs.Stops.{stopped-over, stopped-cause}
+use Rattle.thr_holds.proofs.locked.Locked.opens.Goals as goal
 
 pub invariant_of-self : goal.invariant_of-self
 invariant_of-self g c = record {
