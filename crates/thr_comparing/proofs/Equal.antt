@@ -1,5 +1,5 @@
 -- Entries that are compared as equal are the same, and so are their lines.
-use Rattle.std.proofs.Common.{◌≡◌, ℕ, List, [], ◌∷◌, Bool, true, false, refl, nat_eq, rules, arith, sym, ◌∙◌, ap}
+use Rattle.std.proofs.Common.{◌≡◌, ℕ, List, [], ◌∷◌, Bool, true, false, refl, rules, arith, sym, ◌∙◌, ap}
 use Rattle.std.specs.Prelude.{ℤ, ◌&&◌, Option}
 use Rattle.thr_values.specs.declared.history.Entry.{Entry}
 use Rattle.thr_values.specs.declared.history.What.{What}
