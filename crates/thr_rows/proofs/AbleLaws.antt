@@ -3,17 +3,21 @@ use Rattle.std.proofs.Common.{◌≡◌, ℕ, ◌<◌, ◌≤◌, suc, Bool, tru
 use Rattle.std.proofs.lemmas.Bool.Decides.{nat_tests}
 use Rattle.std.specs.Prelude.{nat_lt}
 use Rattle.std.specs.List.{filter, list_any}
+use Rattle.thr_parts.specs.declared.row.RowId.{RowId}
 use Rattle.thr_parts.specs.declared.row.RowId.TheVariants as row
 use Rattle.thr_parts.specs.declared.row.Place.{Place}
 use Rattle.thr_parts.specs.declared.row.Place.TheVariants.{Runs, Stands}
 use Rattle.thr_parts.specs.declared.row.Seat.{Seat}
 use Rattle.thr_parts.specs.Tables.{Table, none, get, has, put, cut, IsCanonical}
-use Rattle.thr_parts.specs.Rows.{place_in}
+use Rattle.thr_parts.specs.Rows.{is_same_row, place_in}
 use Rattle.thr_parts.specs.Dispatch.{runs_on, can_run}
-use Rattle.thr_parts.proofs.TableLaws.{get_put, has_get, canonical_put, same_table}
+use Rattle.thr_parts.proofs.TableLaws.{get_put, has_get, canonical_put, same_table, put_cut}
 use Rattle.thr_parts.proofs.EntryLaws.{get_cons, get_empty, pass, pass_none, pass_some, canonical_filter, get_filter, filter_put, filter_twice, cut_is}
+use Rattle.thr_parts.proofs.RowLaws.{same_row}
 use Rattle.thr_tables.specs.Places.{has_place}
 use Rattle.thr_rows.specs.Able.{able_of}
+use Rattle.thr_rows.specs.Waits.{is_waiting, waiting_of, is_ready}
+use Rattle.thr_rows.proofs.RememberedLaws.{length_cut, cut_missed}
 
 abbrev can : ℕ × Seat → Bool
 can e = can_run e.1.place
@@ -134,11 +138,7 @@ running_can : (p : ℕ) (s : Place) → runs_on p s ≡ true → can_run s ≡ t
 running_can p (Runs q slice) e = refl
 running_can p (Stands r arrival) e = absurd (cc)
 
--- Those that are ready are found among those that can run.
-pub ready_able : (m : Table Seat) → filter (λ (e : ℕ × Seat). place_in row.Ready e.1.place) (able_of m) ≡ filter (λ (e : ℕ × Seat). place_in row.Ready e.1.place) m
-ready_able m = absorbed (λ (e : ℕ × Seat). place_in row.Ready e.1.place) can (λ e h. ready_can e.1.place h) m
-
--- So are those that run on a processor.
+-- Those that run on a processor are found among those that can run.
 pub running_able : (p : ℕ) (m : Table Seat) → filter (λ (e : ℕ × Seat). runs_on p e.1.place) (able_of m) ≡ filter (λ (e : ℕ × Seat). runs_on p e.1.place) m
 running_able p m = absorbed (λ (e : ℕ × Seat). runs_on p e.1.place) can (λ e h. running_can p e.1.place h) m
 
@@ -164,3 +164,68 @@ passed p k (Some v) e = refl
 -- Whoever stands among those that can run has a seat.
 pub has_able : (m : Table Seat) (k : ℕ) → IsCanonical m → has (able_of m) k ≡ true → has m k ≡ true
 has_able m k h e = has_get m k ∙ passed can k (get m k) (sym (has_get (able_of m) k ∙ ap is_some (get_filter can k m h)) ∙ e)
+
+-- ---- the threads that wait
+
+abbrev waits : ℕ × Seat → Bool
+waits e = not (can_run e.1.place)
+
+pub waiting_none : none ≡ waiting_of none
+unfolding none
+waiting_none = refl
+
+waits_there : (q : ℕ) (s : Seat) (b : Bool) → can_run s.place ≡ b → is_some (cond (not b) (Some s) None) ≡ not (can_run s.place)
+waits_there q s true is = sym (ap not is)
+waits_there q s false is = sym (ap not is)
+
+waiting_at : (q : ℕ) (o : Option Seat) → is_some (pass waits q o) ≡ is_waiting o
+waiting_at q None = ap is_some (pass_none waits q)
+waiting_at q (Some s) = ap is_some (pass_some waits q s) ∙ waits_there q s (can_run s.place) refl
+
+pub waiting_known : (m : Table Seat) (k : ℕ) → IsCanonical m → has (waiting_of m) k ≡ is_waiting (get m k)
+waiting_known m k h = has_get (waiting_of m) k ∙ ap is_some (get_filter waits k m h) ∙ waiting_at k (get m k)
+
+pub canonical_waiting : (m : Table Seat) → IsCanonical m → IsCanonical (waiting_of m)
+canonical_waiting m h = canonical_filter waits m h
+
+pub waiting_cut : (m : Table Seat) (k : ℕ) → cut (waiting_of m) k ≡ waiting_of (cut m k)
+waiting_cut m k = filter_cut waits m k
+
+pub waiting_put_able : (m : Table Seat) (k : ℕ) (s : Seat) → IsCanonical m → can_run s.place ≡ true → cut (waiting_of m) k ≡ waiting_of (put m k s)
+waiting_put_able m k s h c = filter_cut waits m k ∙ sym (filter_put waits m k s h (ap not c))
+
+pub waiting_put : (m : Table Seat) (k : ℕ) (s : Seat) → IsCanonical m → can_run s.place ≡ false → put (cut (waiting_of m) k) k s ≡ waiting_of (put m k s)
+waiting_put m k s h c = put_cut (waiting_of m) k s (canonical_waiting m h) ∙ filter_put_passing waits m k s h (ap not c)
+
+cut_room : (m : Table Seat) (k room : ℕ) (b : Bool) → has m k ≡ b → IsCanonical m → length m ≤ room → (b || nat_lt (length m) room) ≡ true → length (cut m k) < room
+cut_room m k room true is h within free = let fewer : suc (length (cut m k)) ≡ length m = length_cut m k h is in omega (arith, fewer, within)
+cut_room m k room false is h within free =
+    subst (λ (n : Table Seat). length n < room) (cut_missed m k h is) (past (length m) room free)
+  where
+    past : (x y : ℕ) → nat_lt x y ≡ true → x < y
+    past x y h = grind (arith, nat_tests)
+
+pub waiting_room : (m : Table Seat) (k room : ℕ) → IsCanonical m → length m ≤ room → has_place m k room ≡ true → length (cut (waiting_of m) k) < room
+waiting_room m k room h within free =
+    let few : length (waiting_of (cut m k)) ≤ length (cut m k) = at_most waits (cut m k) in
+    let left : length (cut m k) < room = cut_room m k room (has m k) refl h within free in
+    subst (λ (n : Table Seat). length n < room) (sym (waiting_cut m k)) (omega (arith, few, left))
+
+-- ---- the threads of a row
+
+can_in : (r : RowId) (s : Place) → is_ready r ≡ true → place_in r s ≡ true → can_run s ≡ true
+can_in r s is e = ready_can s (sym (ap (λ (x : RowId). place_in x s) (same_row r row.Ready is)) ∙ e)
+
+waits_in : (r : RowId) (s : Place) → is_ready r ≡ false → place_in r s ≡ true → not (can_run s) ≡ true
+waits_in r (Runs p slice) is e = absurd (cc)
+waits_in r (Stands t arrival) is e = ap not (sym (ap (λ (x : RowId). is_same_row x row.Ready) (same_row r t e)) ∙ is)
+
+pub able_in : (r : RowId) (m : Table Seat) → is_ready r ≡ true → filter (λ (e : ℕ × Seat). place_in r e.1.place) (able_of m) ≡ filter (λ (e : ℕ × Seat). place_in r e.1.place) m
+able_in r m is = absorbed (λ (e : ℕ × Seat). place_in r e.1.place) can (λ e h. can_in r e.1.place is h) m
+
+pub waiting_in : (r : RowId) (m : Table Seat) → is_ready r ≡ false → filter (λ (e : ℕ × Seat). place_in r e.1.place) (waiting_of m) ≡ filter (λ (e : ℕ × Seat). place_in r e.1.place) m
+waiting_in r m is = absorbed (λ (e : ℕ × Seat). place_in r e.1.place) waits (λ e h. waits_in r e.1.place is h) m
+
+-- The thread that leaves waited, or nothing changes.
+pub waits_not : (m : Table Seat) (k : ℕ) (o : Option Seat) → has m k ≡ is_waiting o → is_waiting o ≡ false → IsCanonical m → m ≡ cut m k
+waits_not m k o is stays h = cut_missed m k h (is ∙ stays)

@@ -3,4 +3,6 @@ pub mod BestLaws
 pub mod AgreementLaws
 pub mod AgreedCalls
 pub mod RoomLaws
+pub mod RememberedLaws
+pub mod WaitLaws
 pub mod Crossing

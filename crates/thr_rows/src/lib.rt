@@ -3,11 +3,13 @@
 
 pub mod laws;
 mod places;
+mod remembered;
 mod rows;
 mod seating;
 mod seats;
 mod slices;
 mod stops;
+mod waits;
 
 pub use rows::Rows;
 pub use seats::{Entry, better};

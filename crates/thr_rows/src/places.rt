@@ -2,6 +2,7 @@
 ghost use Rattle.std.specs.Prelude.{◌≡◌, is_none};
 ghost use Rattle.thr_parts.specs.Rows.{is_same_row, place_in, row_in, arrival_in};
 ghost use Rattle.thr_parts.specs.Dispatch.{runs_on, can_run};
+ghost use Rattle.thr_rows.specs.Waits.{is_ready};
 
 use thr_parts::row::{Place, RowId};
 
@@ -21,6 +22,13 @@ fn is_same_row(a: RowId, b: RowId) -> bool
         (RowId::Time, RowId::Time) => true,
         _ => false,
     }
+}
+
+/// The row is that of the ready threads.
+pub fn is_ready(row: RowId) -> bool
+    ensures { result ≡ is_ready row }
+{
+    matches!(row, RowId::Ready)
 }
 
 /// The place is in the row.

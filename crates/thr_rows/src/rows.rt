@@ -91,13 +91,7 @@ impl Rows {
         ensures best { result ≡ best_of (standing self.now row) }
         ensures known { IfSome result (λ e. has self.now.seats e.0 ≡ true) }
     {
-        match row {
-            RowId::Ready => {
-                let _rises = self.seats.len();
-                seats::best_in(self.seats.able(), RowId::Ready)
-            }
-            _ => seats::best_in(self.seats.entries(), row),
-        }
+        self.seats.best(row)
     }
 
     /// The best thread of the row.

@@ -1,15 +1,19 @@
 //! The seats of threads by their numbers.
-ghost use Rattle.std.specs.Prelude.{◌≡◌, ◌+◌, ◌≤◌, length, true, is_some, IfOk};
+ghost use Rattle.std.specs.Prelude.{◌≡◌, ◌+◌, ◌≤◌, length, true, is_some, IfOk, IfSome};
+ghost use Rattle.std.specs.List.{filter};
 ghost use Rattle.thr_parts.specs.Tables.{none, get, has, put, cut, IsCanonical};
-ghost use Rattle.thr_parts.specs.Rows.{most};
+ghost use Rattle.thr_parts.specs.Rows.{place_in, best_of, most};
 ghost use Rattle.thr_tables.specs.Places.{has_place};
 ghost use Rattle.thr_rows.specs.Able.{able_of};
+ghost use Rattle.thr_rows.specs.Waits.{is_waiting};
 
-use crate::places::can_run;
-use crate::seats::Entry;
+use crate::places::{can_run, is_ready};
+use crate::remembered::Remembered;
+use crate::seats::{self, Entry};
+use crate::waits::Waits;
 use std::alloc::Global;
 use std::marker::Model;
-use thr_parts::row::Seat;
+use thr_parts::row::{RowId, Seat};
 use thr_tables::Numbered;
 use thr_values::number::{NoMemory, Tid};
 
@@ -17,11 +21,29 @@ use thr_values::number::{NoMemory, Tid};
 const MOST: usize = 1024;
 
 /// The seats of threads, which contracts see as the table of them. The seats of those that are ready or run stand in a table of
-/// their own too, so that none of the many that may wait is looked at where it is asked who runs or can run.
+/// their own too, so that none of the many that may wait is looked at where it is asked who runs or can run. The others stand
+/// in a queue, so that few of them are looked at where it is asked which is the best of a row.
 #[derive(Drop)]
 pub struct Seating {
-    all: Numbered<Seat, MOST>,
+    all: Remembered,
     able: Numbered<Seat, MOST>,
+    waits: Waits,
+}
+
+/// The thread waits no more, whose seat is this.
+fn leave_wait(waits: &mut Waits, seat: Option<Seat>, t: Tid)
+    requires known { has waits.old t.0 ≡ is_waiting seat }
+    requires rises { IsCanonical waits.old }
+    ensures { waits.new ≡ cut waits.old t.0 }
+{
+    match seat {
+        None => {}
+        Some(seat) => {
+            if !can_run(seat.place) {
+                waits.cut(t);
+            }
+        }
+    }
 }
 
 impl Model for Seating {
@@ -29,12 +51,13 @@ impl Model for Seating {
     ghost use Rattle.thr_parts.specs.declared.row.Seat.{Seat};
     ghost use Rattle.thr_parts.specs.Tables.{Table};
     ghost use Rattle.thr_rows.specs.Able.{able_of};
+    ghost use Rattle.thr_rows.specs.Waits.{waiting_of};
 
     ghost Value = { Table Seat };
 
     ghost view = { λ a. a.all };
 
-    ghost invariant = { λ a. a.able ≡ able_of a.all };
+    ghost invariant = { λ a. (a.able ≡ able_of a.all) × (a.waits ≡ waiting_of a.all) };
 }
 
 impl Seating {
@@ -42,9 +65,10 @@ impl Seating {
     pub fn new(alloc: Global) -> Result<Seating, NoMemory>
         ensures { IfOk result (λ seats. seats ≡ none) }
     {
-        let all = Numbered::new(alloc)?;
+        let all = Remembered::new(alloc)?;
         let able = Numbered::new(alloc)?;
-        Ok(Seating { all, able })
+        let waits = Waits::new(alloc)?;
+        Ok(Seating { all, able, waits })
     }
 
     /// How many threads have a seat. Their numbers rise.
@@ -56,20 +80,24 @@ impl Seating {
         self.all.len()
     }
 
-    /// All seats, in the order of their numbers.
-    pub fn entries(&self) -> &[Entry]
-        ensures entries { result.now ≡ self.now }
-        ensures rises { IsCanonical result.now }
-    {
-        self.all.entries()
-    }
-
     /// The seats of those that are ready or run, in the order of their numbers.
     pub fn able(&self) -> &[Entry]
         ensures entries { result.now ≡ able_of self.now }
         ensures rises { IsCanonical result.now }
     {
         self.able.entries()
+    }
+
+    /// The best of those that stand in the row.
+    pub fn best(&self, row: RowId) -> Option<Entry>
+        ensures best { result ≡ best_of (filter (λ e. place_in row e.1.place) self.now) }
+        ensures known { IfSome result (λ e. has self.now e.0 ≡ true) }
+    {
+        let _rises = self.all.len();
+        if is_ready(row) {
+            return seats::best_in(self.able.entries(), row);
+        }
+        self.waits.best(row)
     }
 
     /// The thread's seat.
@@ -86,12 +114,14 @@ impl Seating {
         ensures { self.new ≡ put self.old t.0 seat }
     {
         let _rises = self.all.len();
+        leave_wait(&mut self.waits, self.all.get(t), t);
         if can_run(seat.place) {
             self.able.put(t, seat);
             self.all.put(t, seat);
             return;
         }
         self.able.cut(t);
+        self.waits.add(t, seat);
         self.all.put(t, seat);
     }
 
@@ -101,6 +131,8 @@ impl Seating {
         ensures one_fewer { has self.old t.0 ≡ true → length self.new + 1 ≡ length self.old }
         ensures within { length self.old ≤ most }
     {
+        let _rises = self.all.len();
+        leave_wait(&mut self.waits, self.all.get(t), t);
         self.able.cut(t);
         self.all.cut(t);
     }
