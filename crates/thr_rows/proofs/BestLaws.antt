@@ -1,19 +1,27 @@
 -- The best of a row and the first on a processor, as the code finds them.
-use Rattle.std.proofs.Common.{◌≡◌, ℕ, ◌+◌, ◌-◌, ◌<◌, ◌≤◌, get_or, drop, slice_get, Bool, true, false, ◌&&◌, ◌||◌, cond, if◌then◌else◌, ◌∷◌, length, Option, Some, None, IfSome, refl, sym, arith, ◌∙◌, ap, is_some}
+use Rattle.std.proofs.Common.{◌≡◌, ℕ, ◌+◌, ◌-◌, ◌<◌, ◌≤◌, get_or, drop, slice_get, Bool, true, false, ◌&&◌, ◌||◌, cond, if◌then◌else◌, ◌∷◌, length, Option, Some, None, IfSome, refl, sym, arith, ◌∙◌, ap, is_some, is_none, not}
 use Rattle.std.proofs.lemmas.List.{drop_more, drop_all}
 use Rattle.std.proofs.lemmas.Option.{slice_get_past, slice_get-get_or}
 use Rattle.std.specs.List.{filter}
 use Rattle.thr_parts.specs.declared.row.RowId.{RowId}
 use Rattle.thr_parts.specs.declared.row.RowId.TheVariants as row
 use Rattle.thr_parts.specs.declared.row.Seat.{Seat}
-use Rattle.thr_parts.specs.Tables.{get, has, IsCanonical}
-use Rattle.thr_parts.specs.Rows.{Rows, Seated, is_before, place_in, better, best_of, standing, number_in, best}
-use Rattle.thr_parts.specs.Dispatch.{runs_on, first, running, is_outranked, is_matched, outranks, matches_rank}
-use Rattle.thr_parts.proofs.TableLaws.{has_get}
+use Rattle.thr_values.specs.declared.number.Tid.{Tid}
+use Rattle.std.specs.Option.{option_map}
+use Rattle.thr_parts.specs.declared.row.Place.{Place}
+use Rattle.thr_parts.specs.declared.row.Place.TheVariants.{Runs, Stands}
+use Rattle.thr_parts.specs.Tables.{Table, get, has, put, put_if, cut_if, IsCanonical}
+use Rattle.thr_parts.specs.Moves.{put_in_row, block_in}
+use Rattle.thr_tables.specs.Places.{has_place}
+use Rattle.std.specs.Prelude.{nat_lt}
+use Rattle.thr_parts.specs.Rows.{Rows, Seated, is_before, place_in, better, best_of, standing, number_in, best, is_running, row_in, seat_of, has_room, most}
+use Rattle.thr_parts.specs.Dispatch.{runs_on, first, running, is_outranked, is_matched, outranks, matches_rank, does_give_way, as_kept, Kept, keeps}
+use Rattle.thr_parts.proofs.TableLaws.{has_get, put_cut}
 use Rattle.thr_parts.proofs.EntryLaws.{pass, canonical_filter, get_filter}
 use Rattle.thr_parts.proofs.BestLaws.{best_empty, found}
 use Rattle.thr_parts.proofs.RowLaws.{standing_is}
 use Rattle.thr_parts.proofs.StandingLaws.{any_greater, any_equal}
+use Rattle.thr_rows.proofs.RememberedLaws.{put_same}
 
 abbrev in_row : RowId → ℕ × Seat → Bool
 in_row r e = place_in r e.1.place
@@ -117,3 +125,53 @@ yields rs rank spent o e =
     ap (λ (x : Option (ℕ × Seat)). outranks rank x || (spent && matches_rank rank x)) e
     ∙ either (is_outranked rs rank) (outranks rank (best_of (standing rs row.Ready))) (is_matched rs rank) (matches_rank rank (best_of (standing rs row.Ready))) spent
     (any_greater rank (standing rs row.Ready)) (any_equal rank (standing rs row.Ready))
+
+-- ---- a thread that doesn't run
+
+abbrev kept_as : Rows → Tid → Bool → Option Seat → Kept
+kept_as rs t fifo o =
+    let gives : Bool = does_give_way rs fifo o in record {
+      rows = record {
+        seats = put_if rs.seats t.0 (option_map (as_kept rs fifo) o);
+        next_arrival = if gives then rs.next_arrival + 1 else rs.next_arrival;
+      };
+      stays = is_running o && not gives;
+    }
+
+kept_at : (rs : Rows) (t : Tid) (fifo : Bool) (rank : ℕ) (p : Place) → IsCanonical rs.seats → get rs.seats t.0 ≡ Some (record { rank = rank; place = p }) → is_none (row_in p) ≡ false
+    → (let k : Kept = record { rows = rs; stays = false } in k) ≡ kept_as rs t fifo (Some (record { rank = rank; place = p }))
+kept_at rs t fifo rank (Runs p slice) h at stands = absurd (cc)
+kept_at rs t fifo rank (Stands r arrival) h at stands =
+    ap (λ (m : Seated). let k : Kept = record { rows = record { seats = m; next_arrival = rs.next_arrival }; stays = false } in k)
+    (put_same rs.seats t.0 (record { rank = rank; place = Stands r arrival }) h at)
+
+-- A thread that stands in a row isn't changed by a turn.
+pub standing_kept : (rs : Rows) (t : Tid) (fifo : Bool) (s : Seat) → IsCanonical rs.seats → Some s ≡ get rs.seats t.0 → is_none (row_in s.place) ≡ false
+    → (let k : Kept = record { rows = rs; stays = false } in k) ≡ keeps rs t fifo
+standing_kept rs t fifo s h at stands =
+    kept_at rs t fifo s.rank s.place h (sym at) stands ∙ ap (kept_as rs t fifo) at
+
+-- ---- a thread that blocks
+
+put_after : (m : Table Seat) (k : ℕ) (s : Seat) (b : Bool) → IsCanonical m → put m k s ≡ put (cut_if b m k) k s
+put_after m k s true h = sym (put_cut m k s h)
+put_after m k s false h = refl
+
+-- A thread that blocks has its new place at once.
+pub blocked : (rs : Rows) (r : RowId) (t : Tid) (rank : ℕ) → IsCanonical rs.seats → put_in_row rs r t rank ≡ block_in rs r t rank
+blocked rs r t rank h =
+    ap (λ (m : Table Seat). let x : Rows = record { seats = m; next_arrival = rs.next_arrival + 1 } in x)
+    (put_after rs.seats t.0 (record { rank = rank; place = Stands r rs.next_arrival }) (is_running (seat_of rs t)) h)
+
+runs_there : (o : Option Seat) → is_running o ≡ true → is_some o ≡ true
+runs_there None h = absurd (cc)
+runs_there (Some s) h = refl
+
+either_place : (a b c : Bool) → (a ≡ true → b ≡ true) → (a || c) ≡ true → (b || c) ≡ true
+either_place true b c f h = ap (λ x. x || c) (f refl)
+either_place false true c f h = refl
+either_place false false c f h = h
+
+pub place_to_wait : (rs : Rows) (t : Tid) → has_room rs t ≡ true → has_place rs.seats t.0 most ≡ true
+place_to_wait rs t h =
+    either_place (is_running (seat_of rs t)) (has rs.seats t.0) (nat_lt (length rs.seats) most) (λ a. has_get rs.seats t.0 ∙ runs_there (seat_of rs t) a) h

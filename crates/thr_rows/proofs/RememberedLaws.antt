@@ -192,3 +192,13 @@ pub swept_place : {A : Type 0} (es next : Table (Option A)) → IsCanonical es �
 swept_place es next h is within =
     let few : length (filter (λ e. is_some e.1) es) ≤ length (seated es) = swept_length es h in
     let same : length next ≡ length (filter (λ e. is_some e.1) es) = ap length is in omega (arith, few, same, within)
+
+put_nothing : {A : Type 0} (b : Bool) (v : A) (o : Option A) → (b ≡ true → o ≡ Some v) → o ≡ cond b (Some v) o
+put_nothing true v o h = h refl
+put_nothing false v o h = refl
+
+-- A table stays as it is where what stands at a number is put there.
+pub put_same : {A : Type 0} (m : Table A) (k : ℕ) (v : A) → IsCanonical m → get m k ≡ Some v → m ≡ put m k v
+put_same m k v h at =
+    same_table _ _ h (canonical_put m k v h) (λ q.
+    put_nothing (eqb k q) v (get m q) (λ same. ap (get m) (sym (same_number k q same)) ∙ at) ∙ sym (get_put m k q v))

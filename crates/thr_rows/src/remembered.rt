@@ -97,7 +97,6 @@ impl Remembered {
         ensures within { length self.now ≤ most }
         ensures rises { IsCanonical self.now }
     {
-        let _rises = find(&self.entries, Tid(0));
         self.count
     }
 
@@ -109,28 +108,35 @@ impl Remembered {
         find(&self.entries, t)
     }
 
-    /// The thread has this seat from now on.
-    pub fn put(&mut self, t: Tid, seat: Seat)
+    /// The thread has this seat from now on. The answer is the one that it had.
+    pub fn put(&mut self, t: Tid, seat: Seat) -> Option<Seat>
         requires room { has_place self.old t.0 most ≡ true }
-        ensures { self.new ≡ put self.old t.0 seat }
+        ensures value { self.new ≡ put self.old t.0 seat }
+        ensures had { result ≡ get self.old t.0 }
     {
-        let known = find(&self.entries, t).is_some();
+        let old = find(&self.entries, t);
         store(&mut self.entries, t, seat);
-        if known {
-            return;
+        if old.is_some() {
+            return old;
         }
         self.count += 1;
+        old
     }
 
-    /// The thread has no seat from now on.
-    pub fn cut(&mut self, t: Tid)
+    /// The thread has no seat from now on. The answer is the one that it had.
+    pub fn cut(&mut self, t: Tid) -> Option<Seat>
         ensures value { self.new ≡ cut self.old t.0 }
+        ensures had { result ≡ get self.old t.0 }
         ensures one_fewer { has self.old t.0 ≡ true → length self.new + 1 ≡ length self.old }
         ensures within { length self.old ≤ most }
     {
-        if find(&self.entries, t).is_some() {
-            empty(&mut self.entries, t);
-            self.count -= 1;
+        match find(&self.entries, t) {
+            None => None,
+            Some(seat) => {
+                empty(&mut self.entries, t);
+                self.count -= 1;
+                Some(seat)
+            }
         }
     }
 }

@@ -151,8 +151,10 @@ impl Rows {
         requires arrival { HasArrivalLeft self.old }
         ensures { self.new ≡ block_in self.old row t rank }
     {
-        self.leave(t);
-        self.put(row, t, rank);
+        let _rises = self.seats.len();
+        let place = Place::Stands(row, self.next_arrival);
+        self.seats.put(t, Seat { rank, place });
+        self.next_arrival += 1;
     }
 
     /// The thread has this rank at its place, and keeps its arrival.
@@ -224,9 +226,13 @@ impl Rows {
         requires arrival { HasArrivalLeft self.old }
         ensures { record { rows = self.new; stays = result } ≡ keeps self.old t fifo }
     {
+        let _rises = self.seats.len();
         match self.seat(t) {
             None => false,
             Some(seat) => {
+                if !places::is_running(seat.place) {
+                    return false;
+                }
                 let rank = seat.rank;
                 if self.gives_way(fifo, seat) {
                     let place = Place::Stands(RowId::Ready, self.next_arrival);

@@ -114,15 +114,14 @@ impl Seating {
         ensures { self.new ≡ put self.old t.0 seat }
     {
         let _rises = self.all.len();
-        leave_wait(&mut self.waits, self.all.get(t), t);
+        let old = self.all.put(t, seat);
+        leave_wait(&mut self.waits, old, t);
         if can_run(seat.place) {
             self.able.put(t, seat);
-            self.all.put(t, seat);
             return;
         }
         self.able.cut(t);
         self.waits.add(t, seat);
-        self.all.put(t, seat);
     }
 
     /// The thread has no seat from now on.
@@ -132,8 +131,8 @@ impl Seating {
         ensures within { length self.old ≤ most }
     {
         let _rises = self.all.len();
-        leave_wait(&mut self.waits, self.all.get(t), t);
+        let old = self.all.cut(t);
+        leave_wait(&mut self.waits, old, t);
         self.able.cut(t);
-        self.all.cut(t);
     }
 }

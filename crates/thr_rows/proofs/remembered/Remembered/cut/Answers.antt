@@ -9,23 +9,23 @@ pub overflow_sub-self : goal.overflow_sub-self
 overflow_sub-self c =
     let less : length (seated c.empty.new.entries) + 1 ≡ c.self.inside.count =
     count_cut c.self.inside.count c.args.t.0 (seated c.self.inside.entries) (seated c.empty.new.entries) c.find.ensures.rises c.self.invariant.0
-    (sym c.find.ensures.known ∙ sym c.is_some.ensures ∙ c.if-is_some.true) c.empty.ensures in
+    (sym c.in-Some.ensures.known) c.empty.ensures in
     omega (arith, less)
 
 pub invariant_of-self : goal.invariant_of-self
 invariant_of-self c =
     let less : length (seated c.empty.new.entries) + 1 ≡ c.self.inside.count =
     count_cut c.self.inside.count c.args.t.0 (seated c.self.inside.entries) (seated c.empty.new.entries) c.find.ensures.rises c.self.invariant.0
-    (sym c.find.ensures.known ∙ sym c.is_some.ensures ∙ c.if-is_some.true) c.empty.ensures in
+    (sym c.in-Some.ensures.known) c.empty.ensures in
     (omega (arith, less), omega (arith, c.self.invariant.1))
 
-pub returns-then-is_some-clause-one_fewer : goal.returns-then-is_some-clause-one_fewer
-returns-then-is_some-clause-one_fewer c = λ h.
+pub returns-in-Some-clause-one_fewer : goal.returns-in-Some-clause-one_fewer
+returns-in-Some-clause-one_fewer c = λ h.
     count_cut c.self.inside.count c.args.t.0 (seated c.self.inside.entries) (seated c.empty.new.entries) c.find.ensures.rises c.self.invariant.0
-    (sym c.find.ensures.known ∙ sym c.is_some.ensures ∙ c.if-is_some.true) c.empty.ensures
+    (sym c.in-Some.ensures.known) c.empty.ensures
     ∙ c.self.invariant.0 ∙ ap (λ (m : Table Seat). length m) c.self.view_is
 
-pub returns-else-is_some-clause-value : goal.returns-else-is_some-clause-value
-returns-else-is_some-clause-value c =
+pub returns-in-None-clause-value : goal.returns-in-None-clause-value
+returns-in-None-clause-value c =
     subst (λ (m : Table Seat). m ≡ cut m c.args.t.0) c.self.view_is
-    (cut_missed (seated c.self.inside.entries) c.args.t.0 c.find.ensures.rises (sym c.find.ensures.known ∙ sym c.is_some.ensures ∙ c.if-is_some.false))
+    (cut_missed (seated c.self.inside.entries) c.args.t.0 c.find.ensures.rises (sym c.in-None.ensures.known))

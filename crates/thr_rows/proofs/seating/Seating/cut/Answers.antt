@@ -8,7 +8,7 @@ use Rattle.thr_rows.proofs.seating.Seating.cut.Goals as goal
 
 pub leave_wait-requires-clause-known : goal.leave_wait-requires-clause-known
 leave_wait-requires-clause-known c =
-    ap (λ (m : Table Seat). has m c.args.t.0) c.self.invariant.1 ∙ waiting_known c.self.inside.all c.args.t.0 c.len-rises.ensures.rises ∙ ap is_waiting (sym c.get.ensures.value)
+    ap (λ (m : Table Seat). has m c.args.t.0) c.self.invariant.1 ∙ waiting_known c.self.inside.all c.args.t.0 c.len-rises.ensures.rises ∙ ap is_waiting (sym c.cut-old.ensures.had)
 
 pub leave_wait-requires-clause-rises : goal.leave_wait-requires-clause-rises
 leave_wait-requires-clause-rises c =
@@ -16,7 +16,7 @@ leave_wait-requires-clause-rises c =
 
 pub invariant_of-self : goal.invariant_of-self
 invariant_of-self c = (
-  c.cut.ensures.value ∙ ap (λ (m : Table Seat). cut m c.args.t.0) c.self.invariant.0 ∙ able_cut c.self.inside.all c.args.t.0 ∙ sym (ap able_of c.cut-2.ensures.value),
+  c.cut.ensures.value ∙ ap (λ (m : Table Seat). cut m c.args.t.0) c.self.invariant.0 ∙ able_cut c.self.inside.all c.args.t.0 ∙ sym (ap able_of c.cut-old.ensures.value),
   c.leave_wait.ensures ∙ ap (λ (m : Table Seat). cut m c.args.t.0) c.self.invariant.1 ∙ waiting_cut c.self.inside.all c.args.t.0
-      ∙ sym (ap (λ (m : Table Seat). waiting_of m) c.cut-2.ensures.value),
+      ∙ sym (ap (λ (m : Table Seat). waiting_of m) c.cut-old.ensures.value),
 )

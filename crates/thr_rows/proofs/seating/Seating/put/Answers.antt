@@ -11,7 +11,7 @@ use Rattle.thr_rows.proofs.seating.Seating.put.Goals as goal
 
 pub leave_wait-requires-clause-known : goal.leave_wait-requires-clause-known
 leave_wait-requires-clause-known c =
-    ap (λ (m : Table Seat). has m c.args.t.0) c.self.invariant.1 ∙ waiting_known c.self.inside.all c.args.t.0 c.len-rises.ensures.rises ∙ ap is_waiting (sym c.get.ensures.value)
+    ap (λ (m : Table Seat). has m c.args.t.0) c.self.invariant.1 ∙ waiting_known c.self.inside.all c.args.t.0 c.len-rises.ensures.rises ∙ ap is_waiting (sym c.put-old.ensures.had)
 
 pub leave_wait-requires-clause-rises : goal.leave_wait-requires-clause-rises
 leave_wait-requires-clause-rises c =
@@ -27,10 +27,10 @@ put-requires c = (
 pub invariant_of-self : goal.invariant_of-self
 invariant_of-self c = (
   c.put.ensures ∙ ap (λ (m : Table Seat). put m c.args.t.0 c.args.seat) c.self.invariant.0
-      ∙ able_put c.self.inside.all c.args.t.0 c.args.seat c.len-rises.ensures.rises (sym c.can_run.ensures ∙ c.if-can_run.true) ∙ sym (ap able_of c.put-then-can_run.ensures),
+      ∙ able_put c.self.inside.all c.args.t.0 c.args.seat c.len-rises.ensures.rises (sym c.can_run.ensures ∙ c.if-can_run.true) ∙ sym (ap able_of c.put-old.ensures.value),
   c.leave_wait.ensures ∙ ap (λ (m : Table Seat). cut m c.args.t.0) c.self.invariant.1
       ∙ waiting_put_able c.self.inside.all c.args.t.0 c.args.seat c.len-rises.ensures.rises (sym c.can_run.ensures ∙ c.if-can_run.true)
-      ∙ sym (ap (λ (m : Table Seat). waiting_of m) c.put-then-can_run.ensures),
+      ∙ sym (ap (λ (m : Table Seat). waiting_of m) c.put-old.ensures.value),
 )
 
 pub add-requires-clause-fresh : goal.add-requires-clause-fresh
@@ -44,8 +44,8 @@ add-requires-clause-room c =
 pub invariant_of-self-2 : goal.invariant_of-self-2
 invariant_of-self-2 c = (
   c.cut.ensures.value ∙ ap (λ (m : Table Seat). cut m c.args.t.0) c.self.invariant.0
-      ∙ able_put_waiting c.self.inside.all c.args.t.0 c.args.seat c.len-rises.ensures.rises (sym c.can_run.ensures ∙ c.if-can_run.false) ∙ sym (ap able_of c.put-2.ensures),
+      ∙ able_put_waiting c.self.inside.all c.args.t.0 c.args.seat c.len-rises.ensures.rises (sym c.can_run.ensures ∙ c.if-can_run.false) ∙ sym (ap able_of c.put-old.ensures.value),
   c.add.ensures ∙ ap (λ (m : Table Seat). put m c.args.t.0 c.args.seat) (c.leave_wait.ensures ∙ ap (λ (m : Table Seat). cut m c.args.t.0) c.self.invariant.1)
       ∙ waiting_put c.self.inside.all c.args.t.0 c.args.seat c.len-rises.ensures.rises (sym c.can_run.ensures ∙ c.if-can_run.false)
-      ∙ sym (ap (λ (m : Table Seat). waiting_of m) c.put-2.ensures),
+      ∙ sym (ap (λ (m : Table Seat). waiting_of m) c.put-old.ensures.value),
 )
